@@ -1,0 +1,7 @@
+pub mod BoolLaws
+pub mod FrameLaws
+pub mod NeedLaws
+pub mod RenameLaws
+pub mod CoverLaws
+pub mod EnvLaws
+pub mod TermLaws

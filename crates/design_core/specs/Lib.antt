@@ -1,0 +1,14 @@
+pub mod Operators
+pub mod Core
+pub mod Terms
+pub mod Renamed
+pub mod Needs
+pub mod Covers
+pub mod Cells
+pub mod Items
+pub mod Rows
+pub mod Setups
+pub mod Leaves
+pub mod Reach
+pub mod Names
+pub mod Designs

@@ -1,0 +1,19 @@
+//! A design: signals by number, items with their expressions and statements, and power-up values; and what it means, in specs/.
+#![tactic(auto)]
+
+mod design;
+mod items;
+mod operators;
+mod place;
+mod signals;
+mod tree;
+
+pub use design::{Design, PowerUp, PowerUpList};
+pub use items::{DReset, Item, ItemList};
+pub use operators::{Binary, Unary};
+pub use place::{BitList, BitRef, ItemNumbers, ScopeNumbers};
+pub use signals::{DScopes, Scope, Signal, SignalList};
+pub use tree::{
+    DArm, DArmList, DBase, DExpr, DExprList, DFunction, DLeft, DLeftList, DLocal, DLocalList,
+    DMatch, DMatchList, DNode, DStmt, DStmtList,
+};
