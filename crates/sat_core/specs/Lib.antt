@@ -1,0 +1,5 @@
+pub mod Trail
+pub mod Rests
+pub mod Sync
+pub mod Round
+pub mod Solved
