@@ -1,8 +1,7 @@
-use bits_core::{Duplicate, NoMemory};
-use std::alloc::Global;
-
 use crate::formula::{Formula, Step};
 use crate::lit::Lit;
+use bits_core::{Duplicate, NoMemory};
+use std::alloc::Global;
 
 impl Duplicate for Lit {
     fn copy(&self, alloc: Global) -> Result<Lit, NoMemory> {

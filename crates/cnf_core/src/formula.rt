@@ -1,6 +1,5 @@
-use bits_core::Items;
-
 use crate::lit::Lit;
+use bits_core::Items;
 
 /// A clause: it holds where one of its literals does.
 pub type Clause = Items<Lit>;

@@ -2,13 +2,11 @@ ghost use Rattle.std.specs.Prelude.{◌≡◌, ℕ, ◌+◌, ◌<◌, ◌≤◌,
 ghost use Rattle.lrat_checker.specs.Index.{Fits, StepFits};
 ghost use Rattle.lrat_checker.specs.Verdict.{all_entries, IsFresh};
 
-use bits_core::NoMemory;
-use std::alloc::Global;
-
-use cnf_core::{Clause, Formula, Lit, Log, Step};
-
 use crate::index::Entry;
 use crate::stamps::Mark;
+use bits_core::NoMemory;
+use cnf_core::{Clause, Formula, Lit, Log, Step};
+use std::alloc::Global;
 
 /// What a check writes on, taken before it.
 #[derive(Drop)]

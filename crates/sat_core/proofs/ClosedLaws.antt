@@ -1,13 +1,13 @@
 -- No hints lead from within closed values to a falsified clause.
 use Rattle.std.proofs.Common.{◌≡◌, ℕ, ◌-◌, Bool, true, false, cond, eqb, List, [], ◌∷◌, refl, sym, ap, subst, ◌∙◌, Option, Some, None, inl, inr, ◌⊎◌, slice_get, ℤ, pos, negsuc, zero, suc}
 use Rattle.std.specs.List.{fold}
-use Rattle.std.proofs.lemmas.Bool.{eqb-true, and_parts, false≢true, cond-true, cond-false, cases_Bool}
-use mathlib.Core.Bool.{beq, not}
+use Rattle.std.proofs.lemmas.Bool.{eqb-true, and_parts, false≢true, cond-true}
+use mathlib.Core.Bool.{beq}
 use Rattle.cnf_core.specs.declared.lit.Lit.{Lit}
 use Rattle.cnf_core.specs.declared.standing.Standing.{Standing}
 use Rattle.cnf_core.specs.declared.standing.Standing.TheVariants.{Falsified, Unit as UnitAt, Neither}
 use Rattle.cnf_core.specs.Lit.{variable_of, is_positive}
-use Rattle.cnf_core.specs.Values.{Values, make_true, give, denies, grants, is_false, is_true, same_lit, joined, meet, standing_of}
+use Rattle.cnf_core.specs.Values.{Values, make_true, denies, grants, is_false, is_true, same_lit, joined, meet, standing_of}
 use Rattle.cnf_core.specs.Accepted.{numbered, named, Walk, after, hinted, hint, ends_falsified, closes}
 use Rattle.cnf_core.specs.Closed.{is_quiet, IsClosed}
 
@@ -73,8 +73,10 @@ make_true_at a true v p o q here rest is = here refl ∙ is
 make_true_at a false v p o q here rest is = rest is
 
 within_true : (b a : Values) (l : Lit) → Within b a → is_true a l ≡ true → Within (make_true b l) a
-within_true b a l w t = record { at = λ x v is.
-    make_true_at a (eqb x (variable_of l)) v (is_positive l) (b x) (a x) (λ e. ap a (eqb-true _ _ e) ∙ grants_some (is_positive l) (a (variable_of l)) t) (w.at x v) is }
+within_true b a l w t = record {
+  at = λ x v is.
+      make_true_at a (eqb x (variable_of l)) v (is_positive l) (b x) (a x) (λ e. ap a (eqb-true _ _ e) ∙ grants_some (is_positive l) (a (variable_of l)) t) (w.at x v) is;
+}
 
 -- a walk that stays within a, and is not at a falsified clause
 abbrev Stays : Values → Option Walk → Type 0

@@ -1,19 +1,18 @@
 -- The model of a full trail, which is the first in the order of leaves.
-use Rattle.std.proofs.Common.{◌≡◌, ℕ, ◌≤◌, ◌<◌, Bool, true, false, cond, ◌||◌, List, [], ◌∷◌, refl, sym, ap, subst, ◌∙◌, Option, Some, None, inl, inr, ◌⊎◌, slice_get, zero, suc, arith}
+use Rattle.std.proofs.Common.{◌≡◌, ℕ, ◌≤◌, ◌<◌, Bool, true, false, cond, List, [], ◌∷◌, refl, sym, ap, ◌∙◌, Option, Some, None, inl, inr, slice_get, zero, suc, arith}
 use Rattle.std.specs.List.{fold}
 use Rattle.std.proofs.lemmas.Bool.{cases_eq, cases_lt, false≢true, or_parts}
 use mathlib.Core.Bool.{beq, not}
 use Rattle.cnf_core.specs.declared.lit.Lit.{Lit}
-use Rattle.cnf_core.specs.declared.standing.Standing.{Standing}
-use Rattle.cnf_core.specs.declared.standing.Standing.TheVariants.{Falsified, Unit as UnitAt, Neither}
+use Rattle.cnf_core.specs.declared.standing.Standing.TheVariants.{Falsified, Unit as UnitAt}
 use Rattle.cnf_core.specs.Lit.{variable_of, is_positive}
 use Rattle.cnf_core.specs.Model.{lit_true, clause_true, IsModel}
-use Rattle.cnf_core.specs.Values.{Values, give, make_true, denies, is_false, meet, joined, standing_of}
+use Rattle.cnf_core.specs.Values.{Values, make_true, denies, is_false, meet, standing_of}
 use Rattle.cnf_core.proofs.Sound.{Agrees, Agrees-true, Agrees-none, unit_true}
 use Rattle.sat_core.specs.declared.trail.Mark.{Mark}
 use Rattle.cnf_core.specs.Closed.{IsClosed, is_quiet, IsFirstModel}
 use Rattle.cnf_core.specs.Learned.{Each}
-use Rattle.sat_core.specs.Trail.{assigned, IsDecision, IsForced, Reason, IsTrail}
+use Rattle.sat_core.specs.Trail.{assigned, IsDecision, Reason, IsTrail}
 use Rattle.sat_core.proofs.StandingLaws.{give_same, give_other}
 use Rattle.sat_core.proofs.RestLaws.{none_before, some_none}
 
@@ -59,9 +58,10 @@ AllGiven a (c ∷ cs) = Each (λ l. a (variable_of l) ≡ None → ⊥) c × All
 
 pub model_of : (v : ℕ → Bool) (a : Values) (cs : List (List Lit)) → Agrees v a → AllGiven a cs → IsClosed a cs → IsModel v cs
 model_of v a [] h given closed = tt
-model_of v a (c ∷ cs) h given closed =
-    (true_unless (clause_true v c) (λ t. false≢true (sym (ap (is_quiet a) (all_false a c (each_false v a c h given.0 t))) ∙ closed.0)),
-     model_of v a cs h given.1 closed.1)
+model_of v a (c ∷ cs) h given closed = (
+  true_unless (clause_true v c) (λ t. false≢true (sym (ap (is_quiet a) (all_false a c (each_false v a c h given.0 t))) ∙ closed.0)),
+  model_of v a cs h given.1 closed.1,
+)
 
 model_clause : (w : ℕ → Bool) (cs : List (List Lit)) (k : ℕ) (c : List Lit) → IsModel w cs → slice_get cs k ≡ Some c → clause_true w c ≡ true
 model_clause w [] k c m e = absurd cc
@@ -69,16 +69,18 @@ model_clause w (d ∷ ds) zero c m e = let same : d ≡ c = cc in ap (clause_tru
 model_clause w (d ∷ ds) (suc k) c m e = model_clause w ds k c m.1 e
 
 agrees_before : (v : ℕ → Bool) (a : Values) (l : Lit) → a (variable_of l) ≡ None → Agrees v (make_true a l) → Agrees v a
-agrees_before v a l fresh h = record { at = λ x b e.
-    h.at x b (give_other a x (variable_of l) (is_positive l) (λ s. some_none b (sym e ∙ ap a s ∙ fresh)) ∙ e) }
+agrees_before v a l fresh h = record {
+  at = λ x b e.
+      h.at x b (give_other a x (variable_of l) (is_positive l) (λ s. some_none b (sym e ∙ ap a s ∙ fresh)) ∙ e);
+}
 
 module _ (cs : List (List Lit)) (leaves : ℕ) (v w : ℕ → Bool) (model : IsModel w cs) (x : ℕ) (above : 1 ≤ x) (same : (y : ℕ) → 1 ≤ y → y < x → w y ≡ v y) where
   decision_below : (a : Values) (l : Lit) → IsDecision leaves a l → make_true a l x ≡ None → variable_of l < x
   decision_below a l d h =
       let p = none_before a l x h in
       elim (cases_lt (variable_of l) x) [
-        inl lt ↦ lt
-      | inr ge ↦ absurd (d.least x above (let ne : x ≡ variable_of l → ⊥ = p.0 in omega arith) p.1)
+        | inl lt ↦ lt
+        | inr ge ↦ absurd (d.least x above (let ne : x ≡ variable_of l → ⊥ = p.0 in omega arith) p.1)
       ]
 
   follow_step : (a : Values) (l : Lit) (r : ℕ) → a (variable_of l) ≡ None → Reason cs leaves a l r → make_true a l x ≡ None → Agrees v (make_true a l) → Agrees w a → Agrees w (make_true a l)
@@ -92,7 +94,7 @@ module _ (cs : List (List Lit)) (leaves : ℕ) (v w : ℕ → Bool) (model : IsM
   follows [] ok open_x hv = Agrees-none w
   follows (m ∷ ms) ok open_x hv =
       follow_step (assigned ms) m.lit m.reason ok.0 ok.1 open_x hv
-        (follows ms ok.2 (none_before (assigned ms) m.lit x open_x).1 (agrees_before v (assigned ms) m.lit ok.0 hv))
+      (follows ms ok.2 (none_before (assigned ms) m.lit x open_x).1 (agrees_before v (assigned ms) m.lit ok.0 hv))
 
   positive_here : (a : Values) (l : Lit) (r : ℕ) → Reason cs leaves a l r → is_positive l ≡ true → Agrees w a → w (variable_of l) ≡ true
   positive_here a l zero why t hw = absurd (false≢true (sym why.negative ∙ t))
@@ -102,11 +104,11 @@ module _ (cs : List (List Lit)) (leaves : ℕ) (v w : ℕ → Bool) (model : IsM
   true_later [] ok e hv = absurd cc
   true_later (m ∷ ms) ok e hv =
       elim (cases_eq x (variable_of m.lit)) [
-        inl s ↦
-          let t : is_positive m.lit ≡ true = same_some _ _ (sym (give_same (assigned ms) x (variable_of m.lit) (is_positive m.lit) s) ∙ e) in
-          ap w s ∙ positive_here (assigned ms) m.lit m.reason ok.1 t (follows ms ok.2 (ap (assigned ms) s ∙ ok.0) (agrees_before v (assigned ms) m.lit ok.0 hv))
-      | inr ne ↦
-          true_later ms ok.2 (sym (give_other (assigned ms) x (variable_of m.lit) (is_positive m.lit) ne) ∙ e) (agrees_before v (assigned ms) m.lit ok.0 hv)
+        | inl s ↦
+            let t : is_positive m.lit ≡ true = same_some _ _ (sym (give_same (assigned ms) x (variable_of m.lit) (is_positive m.lit) s) ∙ e) in
+            ap w s ∙ positive_here (assigned ms) m.lit m.reason ok.1 t (follows ms ok.2 (ap (assigned ms) s ∙ ok.0) (agrees_before v (assigned ms) m.lit ok.0 hv))
+        | inr ne ↦
+            true_later ms ok.2 (sym (give_other (assigned ms) x (variable_of m.lit) (is_positive m.lit) ne) ∙ e) (agrees_before v (assigned ms) m.lit ok.0 hv)
       ]
 
 -- the values of a full closed trail are the first model
@@ -114,5 +116,5 @@ pub first_model : (formula cs : List (List Lit)) (leaves : ℕ) (v : ℕ → Boo
 first_model formula cs leaves v tr ok hv m implied given = record {
   model = m;
   first = λ w mw x above leaf same t.
-    true_later cs leaves v w (implied w mw) x above same tr ok (value_is v (assigned tr x) x (given x above leaf) (hv.at x) t) hv
+      true_later cs leaves v w (implied w mw) x above same tr ok (value_is v (assigned tr x) x (given x above leaf) (hv.at x) t) hv;
 }

@@ -1,23 +1,23 @@
 -- What a learned clause is: its decisions, the closed values before the newest one.
-use Rattle.std.proofs.Common.{◌≡◌, ℕ, ◌-◌, ◌≤◌, ◌<◌, Bool, true, false, cond, eqb, ltb, ◌||◌, List, [], ◌∷◌, ◌++◌, refl, sym, ap, subst, ◌∙◌, Option, Some, None, inl, inr, ◌⊎◌, slice_get, get_or, ℤ, pos, negsuc, zero, suc, arith}
+use Rattle.std.proofs.Common.{◌≡◌, ℕ, ◌≤◌, ◌<◌, Bool, true, false, cond, eqb, List, [], ◌∷◌, ◌++◌, refl, sym, ap, subst, ◌∙◌, Option, Some, None, inl, inr, ◌⊎◌, ℤ, zero, suc, arith}
 use Rattle.std.specs.List.{fold}
-use Rattle.std.proofs.lemmas.Bool.{cases_eq, false≢true, cond-true, cond-false, eqb-true, cases_Bool, cases_lt, and_from, eq-eqb}
+use Rattle.std.proofs.lemmas.Bool.{cases_eq, false≢true, cond-true, eqb-true, cases_lt, and_from, eq-eqb}
 use Rattle.std.proofs.lemmas.Option.{some_pair_parts}
 use mathlib.Core.Bool.{beq, not}
 use Rattle.cnf_core.specs.declared.lit.Lit.{Lit}
 use Rattle.cnf_core.specs.declared.standing.Standing.{Standing}
 use Rattle.cnf_core.specs.declared.standing.Standing.TheVariants.{Falsified, Unit as UnitAt, Neither}
-use Rattle.cnf_core.specs.Lit.{variable_of, is_positive}
-use Rattle.cnf_core.specs.Values.{Values, no_values, give, make_true, make_false, denies, grants, is_false, is_true, same_lit, joined, meet, standing_of}
+use Rattle.cnf_core.specs.Lit.{variable_of, is_positive, opposite}
+use Rattle.cnf_core.specs.Values.{Values, no_values, make_true, make_false, denies, grants, is_false, same_lit, joined, meet, standing_of}
 use Rattle.cnf_core.specs.Accepted.{numbered, closes, denied}
 use Rattle.sat_core.specs.declared.trail.Mark.{Mark}
 use Rattle.cnf_core.specs.Closed.{IsClosed, is_quiet}
-use Rattle.sat_core.specs.Trail.{assigned, IsDecision, IsForced, Reason, IsTrail, before_at, before_decision}
-use Rattle.sat_core.specs.Rests.{has_variable, Needs, with_clause_of, next_need, Rests, noted, noted_if, opposite, rests}
+use Rattle.sat_core.specs.Trail.{assigned, IsDecision, Reason, IsTrail, before_at, before_decision}
+use Rattle.sat_core.specs.Rests.{Needs, next_need, Rests, noted_if, rests}
 use Rattle.cnf_core.specs.Learned.{Each, Among, IsLeafLit, HasClosed, Holds, HoldsNone}
 use Rattle.sat_core.proofs.StandingLaws.{give_same, give_other}
 use Rattle.sat_core.proofs.ClosedLaws.{Within, closed_not_refuted}
-use Rattle.sat_core.proofs.RestLaws.{rests_close, none_before, opposite_variable, opposite_sign, some_none}
+use Rattle.sat_core.proofs.RestLaws.{none_before, opposite_variable, opposite_sign, some_none}
 
 pub Each-snoc : (P : Lit → Type 0) (c : List Lit) (l : Lit) → Each P c → P l → Each P (c ++ l ∷ [])
 Each-snoc P [] l h p = (p, tt)
@@ -44,7 +44,7 @@ decided_more leaves a m l fresh d = record {
   above = d.above;
   leaf = d.leaf;
   off = kept_value a m (variable_of l) false fresh d.off;
-  least = λ y p q h. d.least y p q (none_before a m y h).1
+  least = λ y p q h. d.least y p q (none_before a m y h).1;
 }
 
 not_back : (b : Bool) → not b ≡ false → b ≡ true
@@ -53,19 +53,19 @@ not_back false h = absurd (false≢true (sym h))
 
 decided_here : (leaves : ℕ) (a : Values) (m : Lit) → IsDecision leaves a m → IsDecided leaves (make_true a m) (opposite m)
 decided_here leaves a m d =
-    let v = opposite_variable m.value in
+    let v = opposite_variable m in
     record {
-      positive = not_back (is_positive (opposite m)) (opposite_sign m.value d.above d.negative ∙ d.negative);
+      positive = not_back (is_positive (opposite m)) (opposite_sign m d.above d.negative ∙ d.negative);
       above = omega (arith, v, d.above);
       leaf = omega (arith, v, d.leaf);
       off = give_same a (variable_of (opposite m)) (variable_of m) (is_positive m) v ∙ ap Some d.negative;
-      least = λ y p q h. d.least y p (omega (arith, v)) (none_before a m y h).1
+      least = λ y p q h. d.least y p (omega (arith, v)) (none_before a m y h).1;
     }
 
 decided_step : (leaves : ℕ) (cs : List (List Lit)) (a : Values) (b : Bool) (m : Lit) (r : ℕ) (rest : Rests) → a (variable_of m) ≡ None → Reason cs leaves a m r → Each (IsDecided leaves a) rest.clause → Each (IsDecided leaves (make_true a m)) (noted_if b m r rest).clause
 decided_step leaves cs a true m zero rest fresh why h =
     Each-snoc (IsDecided leaves (make_true a m)) rest.clause (opposite m)
-      (Each-weaker (IsDecided leaves a) (IsDecided leaves (make_true a m)) (λ l. decided_more leaves a m l fresh) rest.clause h) (decided_here leaves a m why)
+    (Each-weaker (IsDecided leaves a) (IsDecided leaves (make_true a m)) (λ l. decided_more leaves a m l fresh) rest.clause h) (decided_here leaves a m why)
 decided_step leaves cs a true m (suc r) rest fresh why h = Each-weaker (IsDecided leaves a) (IsDecided leaves (make_true a m)) (λ l. decided_more leaves a m l fresh) rest.clause h
 decided_step leaves cs a false m r rest fresh why h = Each-weaker (IsDecided leaves a) (IsDecided leaves (make_true a m)) (λ l. decided_more leaves a m l fresh) rest.clause h
 
@@ -88,9 +88,11 @@ given_within false b v o q here rest is = rest is
 pub within_denied : (s a : Values) (c : List Lit) → Each (λ l. is_false a l ≡ true) c → Within s a → Within (fold make_false s c) a
 within_denied s a [] h w = w
 within_denied s a (l ∷ ls) h w =
-    within_denied (make_false s l) a ls h.1 (record { at = λ x v is.
-      given_within (eqb x (variable_of l)) (not (is_positive l)) v (s x) (a x)
-        (λ e. ap a (eqb-true _ _ e) ∙ denies_given (is_positive l) (a (variable_of l)) h.0) (w.at x v) is })
+    within_denied (make_false s l) a ls h.1 (record {
+      at = λ x v is.
+          given_within (eqb x (variable_of l)) (not (is_positive l)) v (s x) (a x)
+          (λ e. ap a (eqb-true _ _ e) ∙ denies_given (is_positive l) (a (variable_of l)) h.0) (w.at x v) is;
+    })
 
 decided_false : (leaves : ℕ) (a : Values) (l : Lit) → IsDecided leaves a l → is_false a l ≡ true
 decided_false leaves a l d = ap (denies (is_positive l)) d.off ∙ ap (λ (p : Bool). not (beq false p)) d.positive
@@ -153,10 +155,10 @@ stands_fold a g s (l ∷ ls) h st = stands_fold a g (meet a s l) ls h.1 (stands_
 held_stands : (clauses : List (List Lit)) (c d : List Lit) (h : HasClosed clauses c) → Holds c d → Stands h.greatest (standing_of h.values d)
 held_stands clauses c d h all =
     stands_fold h.values h.greatest Falsified d
-      (Each-weaker (λ l. Among l c) (λ l. (l ≡ h.greatest) ⊎ (is_false h.values l ≡ true))
-        (λ l m. elim (each_among (λ k. (k ≡ h.greatest) ⊎ ((variable_of k < variable_of h.greatest) × (is_false h.values k ≡ true))) c l h.rest m) [ inl e ↦ inl e | inr p ↦ inr p.1 ])
-        d all)
-      (inl refl)
+    (Each-weaker (λ l. Among l c) (λ l. (l ≡ h.greatest) ⊎ (is_false h.values l ≡ true))
+    (λ l m. elim (each_among (λ k. (k ≡ h.greatest) ⊎ ((variable_of k < variable_of h.greatest) × (is_false h.values k ≡ true))) c l h.rest m) [ inl e ↦ inl e | inr p ↦ inr p.1 ])
+    d all)
+    (inl refl)
 
 not_quiet : (a : Values) (g : Lit) (d : List Lit) → a (variable_of g) ≡ None → Stands g (standing_of a d) → is_quiet a (standing_of a d) ≡ true → ⊥
 not_quiet a g d none (inl h) q = false≢true (sym (ap (is_quiet a) h) ∙ q)
@@ -178,9 +180,9 @@ module _ (cs : List (List Lit)) where
   split_by leaves true need d ms c hs e ok closed t = record { front = (rests cs need ms).clause; is = e; decided = clause_decided cs leaves need ms ok }
   split_by leaves false need d ms c hs e ok closed t =
       let all : Each (λ l. is_false (assigned ms) l ≡ true) (rests cs need ms).clause =
-        Each-weaker (IsDecided leaves (assigned ms)) (λ l. is_false (assigned ms) l ≡ true) (decided_false leaves (assigned ms)) (rests cs need ms).clause (clause_decided cs leaves need ms ok) in
+      Each-weaker (IsDecided leaves (assigned ms)) (λ l. is_false (assigned ms) l ≡ true) (decided_false leaves (assigned ms)) (rests cs need ms).clause (clause_decided cs leaves need ms ok) in
       let w : Within (denied c) (assigned ms) =
-        subst (λ (x : List Lit). Within (denied x) (assigned ms)) (sym e) (within_denied no_values (assigned ms) (rests cs need ms).clause all (record { at = λ x v h. absurd cc })) in
+      subst (λ (x : List Lit). Within (denied x) (assigned ms)) (sym e) (within_denied no_values (assigned ms) (rests cs need ms).clause all (record { at = λ x v h. absurd cc })) in
       absurd (closed_not_refuted (assigned ms) (denied c) cs hs closed w t)
 
   shape_step : (b : Bool) (l : Lit) (r : ℕ) (need : Needs) (xs : List Mark) (d : Lit) (ms : List Mark) → before_at r l xs (before_decision xs) ≡ Some (d, ms) → (before_decision xs ≡ Some (d, ms) → Shape cs (rests cs need xs).clause d ms) → Shape cs (noted_if b l r (rests cs need xs)).clause d ms
@@ -189,7 +191,7 @@ module _ (cs : List (List Lit)) where
       record {
         need = need;
         taken = b;
-        is = ap (λ (k : Lit). (noted_if b k zero (rests cs need xs)).clause) p.0 ∙ ap (λ (ys : List Mark). (noted_if b d zero (rests cs need ys)).clause) p.1
+        is = ap (λ (k : Lit). (noted_if b k zero (rests cs need xs)).clause) p.0 ∙ ap (λ (ys : List Mark). (noted_if b d zero (rests cs need ys)).clause) p.1;
       }
   shape_step b l (suc r) need xs d ms e f =
       let s = f e in
@@ -218,11 +220,11 @@ module _ (cs : List (List Lit)) (leaves : ℕ) (c : List Lit) (d : Lit) (ms : Li
   lower : (l : Lit) → IsDecided leaves (assigned ms) l → variable_of l < variable_of (opposite d)
   lower l h =
       elim (cases_lt (variable_of l) (variable_of (opposite d))) [
-        inl lt ↦ lt
-      | inr ge ↦ elim (cases_eq (variable_of l) (variable_of d)) [
-            inl e ↦ absurd (some_none false (sym h.off ∙ ap (assigned ms) e ∙ open_d))
-          | inr ne ↦ absurd (h.least (variable_of d) dec.above (omega (arith, opposite_variable d.value)) open_d)
-          ]
+        | inl lt ↦ lt
+        | inr ge ↦ elim (cases_eq (variable_of l) (variable_of d)) [
+          | inl e ↦ absurd (some_none false (sym h.off ∙ ap (assigned ms) e ∙ open_d))
+          | inr ne ↦ absurd (h.least (variable_of d) dec.above (omega (arith, opposite_variable d)) open_d)
+        ]
       ]
 
   leaf_of : (l : Lit) → IsDecided leaves (assigned ms) l → IsLeafLit leaves l
@@ -230,9 +232,9 @@ module _ (cs : List (List Lit)) (leaves : ℕ) (c : List Lit) (d : Lit) (ms : Li
 
   last_leaf : IsLeafLit leaves (opposite d)
   last_leaf = record {
-    positive = not_back (is_positive (opposite d)) (opposite_sign d.value dec.above dec.negative ∙ dec.negative);
-    above = omega (arith, opposite_variable d.value, dec.above);
-    leaf = omega (arith, opposite_variable d.value, dec.leaf)
+    positive = not_back (is_positive (opposite d)) (opposite_sign d dec.above dec.negative ∙ dec.negative);
+    above = omega (arith, opposite_variable d, dec.above);
+    leaf = omega (arith, opposite_variable d, dec.leaf);
   }
 
   pub leaves_of : Each (IsLeafLit leaves) c
@@ -250,10 +252,10 @@ module _ (cs : List (List Lit)) (leaves : ℕ) (c : List Lit) (d : Lit) (ms : Li
         closed = closed;
         greatest = opposite d;
         there = subst (Among (opposite d)) (sym s.is) (among_last s.front (opposite d));
-        open_there = ap (assigned ms) (opposite_variable d.value) ∙ open_d;
+        open_there = ap (assigned ms) (opposite_variable d) ∙ open_d;
         rest = subst (Each P) (sym s.is) (Each-snoc P s.front (opposite d)
-          (Each-weaker (IsDecided leaves (assigned ms)) P (λ l h. inr (lower l h, decided_false leaves (assigned ms) l h)) s.front s.decided)
-          (inl refl))
+            (Each-weaker (IsDecided leaves (assigned ms)) P (λ l h. inr (lower l h, decided_false leaves (assigned ms) l h)) s.front s.decided)
+            (inl refl));
       }
 
 -- a clause with closed values contains none of the clauses that they are closed for

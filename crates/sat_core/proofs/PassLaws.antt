@@ -1,5 +1,5 @@
 -- One clause of a pass.
-use Rattle.std.proofs.Common.{◌≡◌, ℕ, ◌+◌, ◌<◌, ◌≤◌, Bool, true, false, cond, List, [], ◌∷◌, ◌++◌, refl, sym, ap, subst, ◌∙◌, Option, Some, None, inl, inr, ◌⊎◌, slice_get, get_or, set, take, length, reverse, zero, suc, arith, get_or-set_other, add-one, All}
+use Rattle.std.proofs.Common.{◌≡◌, ℕ, ◌+◌, ◌<◌, ◌≤◌, Bool, true, false, cond, List, [], ◌∷◌, ◌++◌, refl, sym, ap, subst, ◌∙◌, Option, Some, None, inl, inr, slice_get, get_or, set, take, length, reverse, suc, arith, get_or-set_other, add-one, All}
 use Rattle.std.specs.List.{fold}
 use Rattle.std.specs.Option.{is_none}
 use Rattle.std.proofs.lemmas.List.Sums.{sum_by-set}
@@ -10,7 +10,6 @@ use Rattle.std.proofs.Math.Path.{fun_ext}
 use Rattle.std.proofs.lemmas.Bool.{cases_eq, false≢true}
 use Rattle.std.proofs.lemmas.List.{reverse-append}
 use Rattle.std.proofs.lemmas.Grind.{get_or-set_at, take_at_read}
-use mathlib.Core.Bool.{beq, not}
 use Rattle.cnf_core.specs.declared.lit.Lit.{Lit}
 use Rattle.cnf_core.specs.declared.standing.Standing.{Standing}
 use Rattle.cnf_core.specs.declared.standing.Standing.TheVariants.{Falsified, Unit as UnitAt, Neither}
@@ -19,7 +18,7 @@ use Rattle.cnf_core.specs.Values.{Values, give, make_true, denies, grants, is_fa
 use Rattle.sat_core.specs.declared.trail.Mark.{Mark}
 use Rattle.cnf_core.specs.Closed.{IsClosed, is_quiet}
 use Rattle.sat_core.specs.Trail.{assigned, IsTrail, before_decision}
-use Rattle.sat_core.specs.Sync.{reads, open_count, IsSynced, IsConflict, Grew}
+use Rattle.sat_core.specs.Sync.{reads, open_count, IsSynced, Grew}
 use Rattle.sat_core.specs.Round.{IsLeastOpen, ClosedIf, BeforeClosed}
 use Rattle.sat_core.proofs.StandingLaws.{give_same, give_other}
 
@@ -33,8 +32,8 @@ open_from false (Some false) h g = absurd (false≢true (sym g))
 pub reads-set : (vs : List (Option Bool)) (x : ℕ) (b : Bool) → x < length vs → reads (set vs x (Some b)) ≡ give (reads vs) x b
 reads-set vs x b h =
     fun_ext (λ y. elim (cases_eq y x) [
-      inl e ↦ get_or-set_at vs x y (Some b) None e h ∙ sym (give_same (reads vs) y x b e)
-    | inr ne ↦ get_or-set_other vs x y (Some b) None ne ∙ sym (give_other (reads vs) y x b ne)
+      | inl e ↦ get_or-set_at vs x y (Some b) None e h ∙ sym (give_same (reads vs) y x b e)
+      | inr ne ↦ get_or-set_other vs x y (Some b) None ne ∙ sym (give_other (reads vs) y x b ne)
     ])
 
 newest : (marks : List Mark) (m : Mark) → reverse (marks ++ m ∷ []) ≡ m ∷ reverse marks
@@ -66,8 +65,8 @@ marks_fit_more : (values values' : List (Option Bool)) (marks marks' : List Mark
 marks_fit_more values values' marks marks' m x o me ve h p =
     let same : length values' ≡ length values = ap length ve ∙ length-set values x o in
     All-same (λ (i : Mark). variable_of i.lit < length values') _ _ me
-      (All-push (λ (i : Mark). variable_of i.lit < length values') marks m
-        (λ k d lt. omega (arith, same, h k d lt)) (omega (arith, same, p)))
+    (All-push (λ (i : Mark). variable_of i.lit < length values') marks m
+    (λ k d lt. omega (arith, same, h k d lt)) (omega (arith, same, p)))
 
 reasons_more : (cs : List (List Lit)) (marks marks' : List Mark) (m : Mark) → marks' ≡ marks ++ m ∷ [] → All (λ i. i.reason ≤ length cs) marks → m.reason ≤ length cs → All (λ i. i.reason ≤ length cs) marks'
 reasons_more cs marks marks' m me h p =
@@ -87,17 +86,18 @@ module _ (cs : List (List Lit)) (leaves k : ℕ) (c : List Lit) (l : Lit) (marks
   values_is = ap reads ve ∙ reads-set values (variable_of l) (is_positive l) in' ∙ ap (λ (b : Values). make_true b l) s.values_are
 
   trail_is : IsTrail cs leaves (record { lit = l; reason = suc k } ∷ reverse marks)
-  trail_is =
-      (ap (λ (b : Values). b (variable_of l)) (sym s.values_are) ∙ open_at,
-       record { clause = c; there = there; unit = ap (λ (b : Values). standing_of b c) (sym s.values_are) ∙ unit },
-       s.trail)
+  trail_is = (
+    ap (λ (b : Values). b (variable_of l)) (sym s.values_are) ∙ open_at,
+    record { clause = c; there = there; unit = ap (λ (b : Values). standing_of b c) (sym s.values_are) ∙ unit },
+    s.trail,
+  )
 
   pub forced_fewer : open_count values' < open_count values
   forced_fewer =
       let f : Option Bool → ℕ = λ o. cond (is_none o) 1 0 in
       let was : f (get_or values (variable_of l) None) ≡ 1 = ap f open_at in
       let now : open_count (set values (variable_of l) (Some (is_positive l))) + f (get_or values (variable_of l) None) ≡ open_count values + 0 =
-        sum_by-set f values (variable_of l) (Some (is_positive l)) None in' in
+      sum_by-set f values (variable_of l) (Some (is_positive l)) None in' in
       omega (arith, was, now, ap open_count ve)
 
   pub forced : Grew cs leaves marks values marks' values'
@@ -106,10 +106,10 @@ module _ (cs : List (List Lit)) (leaves k : ℕ) (c : List Lit) (l : Lit) (marks
       values_are = values_is ∙ ap assigned (sym mark_is);
       trail = subst (IsTrail cs leaves) (sym mark_is) trail_is;
       marks_fit = marks_fit_more values values' marks marks' (record { lit = l; reason = k + 1 }) (variable_of l) (Some (is_positive l)) me ve s.marks_fit in';
-      reasons = reasons_more cs marks marks' (record { lit = l; reason = k + 1 }) me s.reasons (let lt = slice_get_within cs k c there in omega arith)
+      reasons = reasons_more cs marks marks' (record { lit = l; reason = k + 1 }) me s.reasons (let lt = slice_get_within cs k c there in omega arith);
     };
     decision = ap before_decision mark_is;
-    fewer = omega (arith, forced_fewer)
+    fewer = omega (arith, forced_fewer);
   }
 
 pub Grew-then : (cs : List (List Lit)) (leaves : ℕ) (m1 m2 m3 : List Mark) (v1 v2 v3 : List (Option Bool)) → Grew cs leaves m1 v1 m2 v2 → Grew cs leaves m2 v2 m3 v3 → Grew cs leaves m1 v1 m3 v3
@@ -128,22 +128,23 @@ module _ (cs : List (List Lit)) (leaves : ℕ) (l : Lit) (marks marks' : List Ma
   decision_values = ap reads ve ∙ reads-set values (variable_of l) (is_positive l) in' ∙ ap (λ (b : Values). make_true b l) s.values_are
 
   decision_trail : IsTrail cs leaves (record { lit = l; reason = 0 } ∷ reverse marks)
-  decision_trail =
-      (ap (λ (b : Values). b (variable_of l)) (sym s.values_are) ∙ least.none,
-       record {
-         negative = sign;
-         above = least.above;
-         leaf = least.leaf;
-         least = λ y p q h. least.least y p q (ap (λ (b : Values). b y) s.values_are ∙ h)
-       },
-       s.trail)
+  decision_trail = (
+    ap (λ (b : Values). b (variable_of l)) (sym s.values_are) ∙ least.none,
+    record {
+      negative = sign;
+      above = least.above;
+      leaf = least.leaf;
+      least = λ y p q h. least.least y p q (ap (λ (b : Values). b y) s.values_are ∙ h);
+    },
+    s.trail,
+  )
 
   pub decided_synced : IsSynced cs leaves marks' values'
   decided_synced = record {
     values_are = decision_values ∙ ap assigned (sym decision_mark);
     trail = subst (IsTrail cs leaves) (sym decision_mark) decision_trail;
     marks_fit = marks_fit_more values values' marks marks' (record { lit = l; reason = 0 }) (variable_of l) (Some (is_positive l)) me ve s.marks_fit in';
-    reasons = reasons_more cs marks marks' (record { lit = l; reason = 0 }) me s.reasons (omega arith)
+    reasons = reasons_more cs marks marks' (record { lit = l; reason = 0 }) me s.reasons (omega arith);
   }
 
   pub decided_closed : BeforeClosed cs marks'
@@ -154,7 +155,7 @@ module _ (cs : List (List Lit)) (leaves : ℕ) (l : Lit) (marks marks' : List Ma
       let f : Option Bool → ℕ = λ o. cond (is_none o) 1 0 in
       let was : f (get_or values (variable_of l) None) ≡ 1 = ap f least.none in
       let now : open_count (set values (variable_of l) (Some (is_positive l))) + f (get_or values (variable_of l) None) ≡ open_count values + 0 =
-        sum_by-set f values (variable_of l) (Some (is_positive l)) None in' in
+      sum_by-set f values (variable_of l) (Some (is_positive l)) None in' in
       omega (arith, was, now, ap open_count ve)
 
 pub closed_kept : (cs : List (List Lit)) (leaves : ℕ) (m1 m2 : List Mark) (v1 v2 : List (Option Bool)) → Grew cs leaves m1 v1 m2 v2 → BeforeClosed cs m1 → BeforeClosed cs m2

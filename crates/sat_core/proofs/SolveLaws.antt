@@ -1,29 +1,30 @@
 -- One conflict adds one step to the learned log.
-use Rattle.std.proofs.Common.{◌≡◌, ℕ, ◌+◌, ◌-◌, ◌<◌, ◌≤◌, Bool, true, false, cond, eqb, ltb, ◌&&◌, ◌||◌, List, [], ◌∷◌, ◌++◌, refl, sym, ap, subst, ◌∙◌, Option, Some, None, inl, inr, slice_get, length, ℤ, pos, zero, suc, arith, reverse, length-append, append_assoc}
+use Rattle.std.proofs.Common.{◌≡◌, ℕ, ◌+◌, ◌-◌, ◌<◌, ◌≤◌, Bool, true, false, cond, eqb, ltb, ◌||◌, List, [], ◌∷◌, ◌++◌, refl, sym, ap, subst, ◌∙◌, Option, Some, None, inl, inr, slice_get, length, ℤ, pos, zero, suc, arith, reverse, length-append, append_assoc, get_or, map, drop}
 use Rattle.std.proofs.lemmas.List.{append-nil}
 use Rattle.std.proofs.Math.Path.{fun_ext}
-use Rattle.std.proofs.lemmas.Bool.{and_from, lt-ltb, or_right, cases_order, cases_eq, eq-eqb, ne_eqb, cond-true, cond-false}
+use Rattle.std.proofs.lemmas.Bool.{and_from, lt-ltb, cases_eq, eq-eqb, ne_eqb, cond-true, cond-false}
 use Rattle.cnf_core.specs.declared.lit.Lit.{Lit}
 use Rattle.cnf_core.specs.declared.formula.Step.{Step}
 use Rattle.cnf_core.specs.declared.formula.Step.TheVariants.{Add, Delete}
 use Rattle.cnf_core.specs.declared.standing.Standing.TheVariants.{Falsified}
 use Rattle.cnf_core.specs.Values.{Values, standing_of}
-use Rattle.cnf_core.specs.Accepted.{Clauses, numbered, with_clause, is_implied, is_accepted, has_complements, denied, closes, all_accepted, has_empty, refutes}
+use Rattle.cnf_core.specs.Accepted.{Clauses, numbered, with_clause, is_implied, is_accepted, has_complements, all_accepted}
 use Rattle.sat_core.specs.declared.trail.Mark.{Mark}
 use Rattle.cnf_core.specs.Closed.{IsClosed}
 use Rattle.sat_core.specs.Trail.{assigned, IsTrail, before_decision}
-use Rattle.cnf_core.specs.Learned.{Each, IsLeafLit, HasClosed, HoldsNone, IsLearned}
-use Rattle.sat_core.specs.Rests.{has_variable, Rests, rests}
+use Rattle.cnf_core.specs.Learned.{Each, IsLeafLit, HasClosed, HoldsNone, IsLearned, RefutesWithin}
+use Rattle.sat_core.specs.Rests.{has_variable, rests}
 use Rattle.sat_core.specs.Round.{ClosedIf}
-use Rattle.sat_core.specs.Solved.{learned_clauses, StepOk, IsAnalysed, InOrder, Ready, RefutesWithin, IsLearnedLog, InRange, as_true}
-use Rattle.cnf_core.specs.Lit.{variable_of}
+use Rattle.sat_core.specs.Solved.{learned_clauses, StepOk, IsAnalysed, InOrder, Ready, InRange, as_true, value_at}
+use Rattle.cnf_core.specs.Lit.{variable_of, is_positive}
+use mathlib.Core.Bool.{beq}
 use Rattle.cnf_core.specs.Model.{IsModel, clause_true}
 use Rattle.cnf_core.proofs.Sound.{Agrees, implied_true, AllTrue-numbered}
 use Rattle.cnf_core.specs.Closed.{AreDecided, IsFirstModel}
-use Rattle.sat_core.specs.Sync.{reads, IsSynced, Fits}
+use Rattle.sat_core.specs.Sync.{reads, Fits}
 use Rattle.std.proofs.Common.{All}
-use Rattle.std.proofs.lemmas.List.Elements.{All-nil, All-cons, All-push, All-same}
-use Rattle.sat_core.specs.Round.{IsFull, FullTrail}
+use Rattle.std.proofs.lemmas.List.Elements.{All-nil, All-cons, All-push, All-same, All-tail}
+use Rattle.sat_core.specs.Round.{FullTrail}
 use Rattle.sat_core.proofs.FirstLaws.{AllGiven, model_of, first_model}
 use Rattle.sat_core.proofs.RestLaws.{rests_close}
 use Rattle.sat_core.proofs.LearnedLaws.{split, Split, trail_before, leaves_of, not_empty, has_closed, holds_none, no_decision}
@@ -45,7 +46,7 @@ step_ok clauses leaves k c tr d ms ok there falsified e closed =
       full = not_empty clauses leaves r.clause d ms s b.0 b.1;
       leaf_lits = leaves_of clauses leaves r.clause d ms s b.0 b.1;
       none = holds_none clauses clauses r.clause h h.closed;
-      closed = h
+      closed = h;
     }
 
 same_cond : (a b : Bool) (x y : Option (List Lit)) → a ≡ b → cond a x y ≡ cond b x y
@@ -54,8 +55,8 @@ same_cond a b x y e = ap (λ (q : Bool). cond q x y) e
 suc_eqb : (m n : ℕ) → eqb m n ≡ eqb (suc m) (suc n)
 suc_eqb m n =
     elim (cases_eq m n) [
-      inl e ↦ eq-eqb m n e ∙ sym (eq-eqb (suc m) (suc n) (ap suc e))
-    | inr ne ↦ ne_eqb m n ne ∙ sym (ne_eqb (suc m) (suc n) (λ h. ne (omega arith)))
+      | inl e ↦ eq-eqb m n e ∙ sym (eq-eqb (suc m) (suc n) (ap suc e))
+      | inr ne ↦ ne_eqb m n ne ∙ sym (ne_eqb (suc m) (suc n) (λ h. ne (omega arith)))
     ]
 
 learns_by : (clauses : List (List Lit)) (leaves k : ℕ) (c : List Lit) (trail : List Mark) (o : Option (Lit × List Mark)) → before_decision trail ≡ o → IsTrail clauses leaves trail → slice_get clauses k ≡ Some c → standing_of (assigned trail) c ≡ Falsified → ClosedIf clauses o → ((rests clauses (has_variable c) trail).clause ≡ [] → ⊥) → StepOk leaves clauses (rests clauses (has_variable c) trail).clause ((rests clauses (has_variable c) trail).hints ++ pos (suc k) ∷ [])
@@ -66,7 +67,7 @@ learns_by clauses leaves k c trail (Some p) e ok there falsified closed full = s
 pub analysed : (clauses : List (List Lit)) (leaves k : ℕ) (c : List Lit) (trail : List Mark) → IsTrail clauses leaves trail → slice_get clauses k ≡ Some c → standing_of (assigned trail) c ≡ Falsified → ClosedIf clauses (before_decision trail) → IsAnalysed clauses leaves (rests clauses (has_variable c) trail).clause ((rests clauses (has_variable c) trail).hints ++ pos (suc k) ∷ [])
 analysed clauses leaves k c trail ok there falsified closed = record {
   implied = or_true (has_complements (rests clauses (has_variable c) trail).clause) _ (rests_close clauses leaves k c trail ok there falsified);
-  learns = λ full. learns_by clauses leaves k c trail (before_decision trail) refl ok there falsified closed full
+  learns = λ full. learns_by clauses leaves k c trail (before_decision trail) refl ok there falsified closed full;
 }
 
 numbered_snoc_at : (cs : List (List Lit)) (c : List Lit) (n : ℕ) → slice_get (cs ++ c ∷ []) n ≡ cond (eqb n (length cs)) (Some c) (slice_get cs n)
@@ -101,10 +102,17 @@ holds_none_tail c (d ∷ ds) es h = holds_none_tail c ds es h.1
 pub learned_more : (base clauses earlier : List (List Lit)) (leaves : ℕ) (log : List Step) (c : List Lit) (hints : List ℤ) (id : ℕ) → clauses ≡ base ++ earlier → IsLearned (numbered clauses) (length clauses) clauses earlier leaves log → InOrder (length clauses) log → StepOk leaves (clauses ++ learned_clauses log) c hints → id ≡ length (clauses ++ learned_clauses log) + 1 → IsLearned (numbered clauses) (length clauses) clauses earlier leaves (log ++ Add id c hints ∷ []) × InOrder (length clauses) (log ++ Add id c hints ∷ [])
 learned_more base clauses earlier leaves [] c hints id e h o ok is =
     let here : StepOk leaves clauses c hints = subst (λ (ds : List (List Lit)). StepOk leaves ds c hints) (append-nil clauses) ok in
-    let next : id ≡ length clauses + 1 = is ∙ ap (λ (ds : List (List Lit)). length ds + 1) (append-nil clauses) in
-    ((and_from (ltb (length clauses) id) (is_implied (numbered clauses) c hints) (lt-ltb (length clauses) id (omega arith)) here.implied,
-      here.full, here.leaf_lits, holds_none_tail c base earlier (subst (HoldsNone c) e here.none), here.closed, tt),
-     (next, tt))
+    let next : id ≡ length clauses + 1 = is ∙ ap (λ (ds : List (List Lit)). length ds + 1) (append-nil clauses) in (
+      (
+        and_from (ltb (length clauses) id) (is_implied (numbered clauses) c hints) (lt-ltb (length clauses) id (omega arith)) here.implied,
+        here.full,
+        here.leaf_lits,
+        holds_none_tail c base earlier (subst (HoldsNone c) e here.none),
+        here.closed,
+        tt,
+      ),
+      (next, tt),
+    )
 learned_more base clauses earlier leaves (Delete ids ∷ steps) c hints id e h o ok is = absurd h
 learned_more base clauses earlier leaves (Add i d hs ∷ steps) c hints id e h o ok is =
     let more = clauses ++ d ∷ [] in
@@ -113,16 +121,23 @@ learned_more base clauses earlier leaves (Add i d hs ∷ steps) c hints id e h o
     let last : i ≡ length more = o.0 ∙ count in
     let rest_is : more ++ learned_clauses steps ≡ clauses ++ d ∷ learned_clauses steps = append_assoc clauses (d ∷ []) (learned_clauses steps) in
     let r = learned_more base more (earlier ++ d ∷ []) leaves steps c hints id
-      (ap (λ (ds : List (List Lit)). ds ++ d ∷ []) e ∙ append_assoc base earlier (d ∷ []))
-      (subst (λ (n : ℕ). IsLearned (numbered more) n more (earlier ++ d ∷ []) leaves steps) last
-        (subst (λ (q : Clauses). IsLearned q i more (earlier ++ d ∷ []) leaves steps) db h.5))
-      (subst (λ (n : ℕ). InOrder n steps) count o.1)
-      (subst (λ (ds : List (List Lit)). StepOk leaves ds c hints) (sym rest_is) ok)
-      (is ∙ ap (λ (ds : List (List Lit)). length ds + 1) (sym rest_is)) in
-    ((h.0, h.1, h.2, h.3, h.4,
-      subst (λ (q : Clauses). IsLearned q i more (earlier ++ d ∷ []) leaves (steps ++ Add id c hints ∷ [])) (sym db)
-        (subst (λ (n : ℕ). IsLearned (numbered more) n more (earlier ++ d ∷ []) leaves (steps ++ Add id c hints ∷ [])) (sym last) r.0)),
-     (o.0, subst (λ (n : ℕ). InOrder n (steps ++ Add id c hints ∷ [])) (sym count) r.1))
+    (ap (λ (ds : List (List Lit)). ds ++ d ∷ []) e ∙ append_assoc base earlier (d ∷ []))
+    (subst (λ (n : ℕ). IsLearned (numbered more) n more (earlier ++ d ∷ []) leaves steps) last
+    (subst (λ (q : Clauses). IsLearned q i more (earlier ++ d ∷ []) leaves steps) db h.5))
+    (subst (λ (n : ℕ). InOrder n steps) count o.1)
+    (subst (λ (ds : List (List Lit)). StepOk leaves ds c hints) (sym rest_is) ok)
+    (is ∙ ap (λ (ds : List (List Lit)). length ds + 1) (sym rest_is)) in (
+      (
+        h.0,
+        h.1,
+        h.2,
+        h.3,
+        h.4,
+        subst (λ (q : Clauses). IsLearned q i more (earlier ++ d ∷ []) leaves (steps ++ Add id c hints ∷ [])) (sym db)
+            (subst (λ (n : ℕ). IsLearned (numbered more) n more (earlier ++ d ∷ []) leaves (steps ++ Add id c hints ∷ [])) (sym last) r.0),
+      ),
+      (o.0, subst (λ (n : ℕ). InOrder n (steps ++ Add id c hints ∷ [])) (sym count) r.1),
+    )
 
 learned_clauses-snoc : (log : List Step) (id : ℕ) (c : List Lit) (hints : List ℤ) → learned_clauses (log ++ Add id c hints ∷ []) ≡ learned_clauses log ++ c ∷ []
 learned_clauses-snoc [] id c hints = refl
@@ -136,13 +151,13 @@ IsModel-snoc w (d ∷ ds) c m t = (m.0, IsModel-snoc w ds c m.1 t)
 pub Ready-more : (cs clauses : List (List Lit)) (leaves : ℕ) (log : List Step) (c : List Lit) (hints : List ℤ) → Ready cs clauses leaves log → StepOk leaves clauses c hints → Ready cs (clauses ++ c ∷ []) leaves (log ++ Add (length clauses + 1) c hints ∷ [])
 Ready-more cs clauses leaves log c hints r ok =
     let more = learned_more cs cs [] leaves log c hints (length clauses + 1) (sym (append-nil cs)) r.learned r.order
-      (subst (λ (ds : List (List Lit)). StepOk leaves ds c hints) r.are ok) (ap (λ (ds : List (List Lit)). length ds + 1) r.are) in
+    (subst (λ (ds : List (List Lit)). StepOk leaves ds c hints) r.are ok) (ap (λ (ds : List (List Lit)). length ds + 1) r.are) in
     record {
       are = ap (λ (ds : List (List Lit)). ds ++ c ∷ []) r.are ∙ append_assoc cs (learned_clauses log) (c ∷ [])
-        ∙ ap (λ (ds : List (List Lit)). cs ++ ds) (sym (learned_clauses-snoc log (length clauses + 1) c hints));
+          ∙ ap (λ (ds : List (List Lit)). cs ++ ds) (sym (learned_clauses-snoc log (length clauses + 1) c hints));
       learned = more.0;
       order = more.1;
-      implied = λ w m. IsModel-snoc w clauses c (r.implied w m) (implied_true w (numbered clauses) c hints (AllTrue-numbered w clauses (r.implied w m)) ok.implied)
+      implied = λ w m. IsModel-snoc w clauses c (r.implied w m) (implied_true w (numbered clauses) c hints (AllTrue-numbered w clauses (r.implied w m)) ok.implied);
     }
 
 pub Ready-start : (cs clauses : List (List Lit)) (leaves : ℕ) (log : List Step) → clauses ≡ cs → log ≡ [] → Ready cs clauses leaves log
@@ -158,7 +173,7 @@ accepted_to_end : (clauses earlier : List (List Lit)) (leaves : ℕ) (log : List
 accepted_to_end clauses earlier leaves [] hints id h o t is =
     let next : id ≡ length clauses + 1 = is ∙ ap (λ (ds : List (List Lit)). length ds + 1) (append-nil clauses) in
     and_from (ltb (length clauses) id) (is_implied (numbered clauses) [] hints) (lt-ltb (length clauses) id (omega arith))
-      (ap (λ (ds : List (List Lit)). is_implied (numbered ds) [] hints) (sym (append-nil clauses)) ∙ t)
+    (ap (λ (ds : List (List Lit)). is_implied (numbered ds) [] hints) (sym (append-nil clauses)) ∙ t)
 accepted_to_end clauses earlier leaves (Delete ids ∷ steps) hints id h o t is = absurd h
 accepted_to_end clauses earlier leaves (Add i d hs ∷ steps) hints id h o t is =
     let more = clauses ++ d ∷ [] in
@@ -167,26 +182,26 @@ accepted_to_end clauses earlier leaves (Add i d hs ∷ steps) hints id h o t is 
     let last : i ≡ length more = o.0 ∙ count in
     let rest_is : more ++ learned_clauses steps ≡ clauses ++ d ∷ learned_clauses steps = append_assoc clauses (d ∷ []) (learned_clauses steps) in
     let r = accepted_to_end more (earlier ++ d ∷ []) leaves steps hints id
-      (subst (λ (n : ℕ). IsLearned (numbered more) n more (earlier ++ d ∷ []) leaves steps) last
-        (subst (λ (q : Clauses). IsLearned q i more (earlier ++ d ∷ []) leaves steps) db h.5))
-      (subst (λ (n : ℕ). InOrder n steps) count o.1)
-      (ap (λ (ds : List (List Lit)). is_implied (numbered ds) [] hints) rest_is ∙ t)
-      (is ∙ ap (λ (ds : List (List Lit)). length ds + 1) (sym rest_is)) in
+    (subst (λ (n : ℕ). IsLearned (numbered more) n more (earlier ++ d ∷ []) leaves steps) last
+    (subst (λ (q : Clauses). IsLearned q i more (earlier ++ d ∷ []) leaves steps) db h.5))
+    (subst (λ (n : ℕ). InOrder n steps) count o.1)
+    (ap (λ (ds : List (List Lit)). is_implied (numbered ds) [] hints) rest_is ∙ t)
+    (is ∙ ap (λ (ds : List (List Lit)). length ds + 1) (sym rest_is)) in
     nonempty_step (numbered clauses) (length clauses) i d hs (steps ++ Add id [] hints ∷ []) h.1 h.0
-      (ap (λ (q : Clauses). all_accepted q i (steps ++ Add id [] hints ∷ [])) db
-      ∙ ap (λ (n : ℕ). all_accepted (numbered more) n (steps ++ Add id [] hints ∷ [])) last ∙ r)
+    (ap (λ (q : Clauses). all_accepted q i (steps ++ Add id [] hints ∷ [])) db
+    ∙ ap (λ (n : ℕ). all_accepted (numbered more) n (steps ++ Add id [] hints ∷ [])) last ∙ r)
 
 pub refuted_within : (cs clauses : List (List Lit)) (leaves budget : ℕ) (log log' : List Step) (c : List Lit) (hints : List ℤ) → Ready cs clauses leaves log → is_implied (numbered clauses) c hints ≡ true → c ≡ [] → length log ≤ budget → log' ≡ log ++ Add (length clauses + 1) c hints ∷ [] → RefutesWithin cs leaves budget log'
 refuted_within cs clauses leaves budget log log' c hints r t empty few e =
     let e' : log' ≡ log ++ Add (length clauses + 1) [] hints ∷ [] = e ∙ ap (λ (d : List Lit). log ++ Add (length clauses + 1) d hints ∷ []) empty in
     let t' : is_implied (numbered (cs ++ learned_clauses log)) [] hints ≡ true =
-      ap (λ (ds : List (List Lit)). is_implied (numbered ds) [] hints) (sym r.are) ∙ ap (λ (d : List Lit). is_implied (numbered clauses) d hints) (sym empty) ∙ t in
+    ap (λ (ds : List (List Lit)). is_implied (numbered ds) [] hints) (sym r.are) ∙ ap (λ (d : List Lit). is_implied (numbered clauses) d hints) (sym empty) ∙ t in
     record {
       steps = log;
       learned = r.learned;
       few = few;
       ends = (length clauses + 1, hints, e');
-      refuted = ap (refutes cs) e' ∙ or_true (has_empty cs) _ (accepted_to_end cs [] leaves log hints (length clauses + 1) r.learned r.order t' (ap (λ (ds : List (List Lit)). length ds + 1) r.are))
+      accepted = ap (all_accepted (numbered cs) (length cs)) e' ∙ accepted_to_end cs [] leaves log hints (length clauses + 1) r.learned r.order t' (ap (λ (ds : List (List Lit)). length ds + 1) r.are);
     }
 
 closed_front : (a : Values) (cs ds : List (List Lit)) → IsClosed a (cs ++ ds) → IsClosed a cs
@@ -211,7 +226,7 @@ sat_says cs clauses leaves n log marks values r f decided range =
     let agrees : Agrees v a = record { at = λ x b e. ap as_true e } in
     let m = model_of v a cs agrees (all_given a n cs given range) closed in
     first_model cs clauses leaves v trail f.synced.trail (subst (Agrees v) f.synced.values_are agrees) m r.implied
-      (λ x p q h. f.full.given x p q (ap (λ (b : Values). b x) f.synced.values_are ∙ h))
+    (λ x p q h. f.full.given x p q (ap (λ (b : Values). b x) f.synced.values_are ∙ h))
 
 pub nil_from_length : (c : List Lit) → length c ≡ 0 → c ≡ []
 nil_from_length [] h = refl
@@ -223,3 +238,50 @@ leaves_fit leaves n (l ∷ ls) lt h = All-cons (λ (k : Lit). variable_of k < n)
 
 pub fits_more : (n : ℕ) (cs cs' : List (List Lit)) (c : List Lit) → cs' ≡ cs ++ c ∷ [] → All (Fits n) cs → Fits n c → All (Fits n) cs'
 fits_more n cs cs' c e h p = All-same (Fits n) cs' (cs ++ c ∷ []) e (All-push (Fits n) cs c h p)
+
+-- a first model stays one where variable 0, which no literal has, gets another value
+clause_same : (v w : ℕ → Bool) (n : ℕ) (c : List Lit) → ((x : ℕ) → 1 ≤ x → v x ≡ w x) → Each (λ l. (1 ≤ variable_of l) × (variable_of l ≤ n)) c → clause_true v c ≡ clause_true w c
+clause_same v w n [] e h = refl
+clause_same v w n (l ∷ ls) e h =
+    ap (λ (b : Bool). beq b (is_positive l) || clause_true v ls) (e (variable_of l) h.0.0)
+    ∙ ap (λ (b : Bool). beq (w (variable_of l)) (is_positive l) || b) (clause_same v w n ls e h.1)
+
+model_same : (v w : ℕ → Bool) (n : ℕ) (cs : List (List Lit)) → ((x : ℕ) → 1 ≤ x → v x ≡ w x) → InRange n cs → IsModel v cs → IsModel w cs
+model_same v w n [] e h m = tt
+model_same v w n (c ∷ cs) e h m = (sym (clause_same v w n c e h.0) ∙ m.0, model_same v w n cs e h.1 m.1)
+
+pub first_same : (v w : ℕ → Bool) (leaves n : ℕ) (cs : List (List Lit)) → ((x : ℕ) → 1 ≤ x → v x ≡ w x) → InRange n cs → IsFirstModel cs leaves v → IsFirstModel cs leaves w
+first_same v w leaves n cs e h f = record {
+  model = model_same v w n cs e h f.model;
+  first = λ u m x p q below t. f.first u m x p q (λ y a b. below y a b ∙ sym (e y a)) (e x p ∙ t);
+}
+
+read_from : (vs : List (Option Bool)) (x : ℕ) → as_true (get_or vs x None) ≡ get_or (map as_true vs) x false
+read_from [] x = refl
+read_from (o ∷ os) zero = refl
+read_from (o ∷ os) (suc x) = read_from os x
+
+values_at : (values : List (Option Bool)) (x : ℕ) → 1 ≤ x → as_true (reads values x) ≡ value_at (map as_true (drop 1 values)) x
+values_at [] x p = refl
+values_at (o ∷ os) zero p = absurd (omega arith)
+values_at (o ∷ os) (suc x) p = let e : suc x - 1 ≡ x = omega arith in read_from os x ∙ ap (λ (k : ℕ). get_or (map as_true os) k false) (sym e)
+
+-- the assignment that the values make is a first model where the values are
+pub assignment_says : (cs : List (List Lit)) (leaves n : ℕ) (values : List (Option Bool)) (bits : List Bool) → bits ≡ map as_true (drop 1 values) → InRange n cs → IsFirstModel cs leaves (λ x. as_true (reads values x)) → IsFirstModel cs leaves (value_at bits)
+assignment_says cs leaves n values bits e h f =
+    first_same (λ x. as_true (reads values x)) (value_at bits) leaves n cs (λ x p. values_at values x p ∙ ap (λ (bs : List Bool). value_at bs x) (sym e)) h f
+
+each_in_range : (n : ℕ) (c : List Lit) → All (λ l. 1 ≤ variable_of l) c → Fits (n + 1) c → Each (λ l. (1 ≤ variable_of l) × (variable_of l ≤ n)) c
+each_in_range n [] above fit = tt
+each_in_range n (l ∷ ls) above fit =
+    let a = above 0 l (omega arith) in
+    let b = fit 0 l (omega arith) in
+    ((a, omega arith), each_in_range n ls (All-tail (λ (k : Lit). 1 ≤ variable_of k) l ls above) (All-tail (λ (k : Lit). variable_of k < n + 1) l ls fit))
+
+-- clauses without variable 0 and above n have their variables in range
+pub in_range : (n : ℕ) (cs : List (List Lit)) → All (All (λ l. 1 ≤ variable_of l)) cs → All (Fits (n + 1)) cs → InRange n cs
+in_range n [] above fit = tt
+in_range n (c ∷ cs) above fit = (
+  each_in_range n c (above 0 c (omega arith)) (fit 0 c (omega arith)),
+  in_range n cs (All-tail (All (λ (k : Lit). 1 ≤ variable_of k)) c cs above) (All-tail (Fits (n + 1)) c cs fit),
+)

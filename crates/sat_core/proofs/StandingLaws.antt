@@ -1,14 +1,14 @@
 -- How a clause's standing depends on the values.
-use Rattle.std.proofs.Common.{◌≡◌, ℕ, Bool, true, false, cond, eqb, ◌&&◌, ◌||◌, List, [], ◌∷◌, refl, sym, ap, subst, ◌∙◌, Option, Some, None, inl, inr, ◌⊎◌}
+use Rattle.std.proofs.Common.{◌≡◌, ℕ, Bool, true, false, cond, eqb, List, [], ◌∷◌, refl, sym, ap, ◌∙◌, Some, inl, inr, ◌⊎◌}
 use Rattle.std.specs.List.{fold}
 use Rattle.std.proofs.lemmas.Bool.{eqb-true, and_parts, cond-true, cond-false, eq-eqb, ne_eqb}
-use mathlib.Core.Bool.{beq, not}
+use mathlib.Core.Bool.{beq}
 use Rattle.cnf_core.specs.declared.lit.Lit.{Lit}
 use Rattle.cnf_core.specs.declared.standing.Standing.{Standing}
 use Rattle.cnf_core.specs.declared.standing.Standing.TheVariants.{Falsified, Unit as UnitAt, Neither}
 use Rattle.cnf_core.specs.Learned.{Each}
 use Rattle.cnf_core.specs.Lit.{variable_of, is_positive}
-use Rattle.cnf_core.specs.Values.{Values, give, denies, is_false, same_lit, joined, meet, standing_of}
+use Rattle.cnf_core.specs.Values.{Values, give, is_false, same_lit, joined, meet}
 
 pub give_same : (a : Values) (x y : ℕ) (b : Bool) → x ≡ y → give a y b x ≡ Some b
 give_same a x y b e = cond-true (eqb x y) (Some b) (a x) (eq-eqb x y e)

@@ -1,9 +1,9 @@
 -- What the solver's answers say.
-use Rattle.std.specs.Prelude.{Option, Some, None, ◌≡◌, ℕ, ◌+◌, ◌-◌, ◌<◌, ◌≤◌, Bool, true, false, List, [], ◌∷◌, ◌++◌, length, slice_index_or, ℤ}
+use Rattle.std.specs.Prelude.{Option, Some, None, ◌≡◌, ℕ, ◌+◌, ◌-◌, ◌≤◌, Bool, true, false, List, [], ◌∷◌, ◌++◌, length, slice_index_or, ℤ}
 use Rattle.cnf_core.specs.declared.lit.Lit.{Lit}
 use Rattle.cnf_core.specs.declared.formula.Step.{Step}
 use Rattle.cnf_core.specs.declared.formula.Step.TheVariants.{Add, Delete}
-use Rattle.cnf_core.specs.Accepted.{numbered, is_accepted, is_implied, refutes}
+use Rattle.cnf_core.specs.Accepted.{numbered, is_implied}
 use Rattle.cnf_core.specs.Lit.{variable_of}
 use Rattle.cnf_core.specs.Model.{IsModel}
 use Rattle.sat_core.specs.declared.solving.Outcome.{Outcome}
@@ -12,9 +12,8 @@ use Rattle.sat_core.specs.declared.solving.Attempt.{Attempt}
 use Rattle.sat_core.specs.declared.solving.Attempt.TheVariants.{Full, Learn}
 use Rattle.sat_core.specs.declared.trail.Mark.{Mark}
 use Rattle.sat_core.specs.Round.{FullTrail}
-use Rattle.sat_core.specs.Sync.{reads}
 use Rattle.cnf_core.specs.Closed.{IsFirstModel}
-use Rattle.cnf_core.specs.Learned.{IsLearned, Each, IsLeafLit, HoldsNone, HasClosed}
+use Rattle.cnf_core.specs.Learned.{IsLearnedLog, RefutesWithin, Each, IsLeafLit, HoldsNone, HasClosed}
 
 -- the value of variable i + 1 stands at place i
 abbrev pub value_at : List Bool → ℕ → Bool
@@ -24,10 +23,6 @@ abbrev pub learned_clauses : List Step → List (List Lit)
 learned_clauses [] = []
 learned_clauses (Add id c hints ∷ steps) = c ∷ learned_clauses steps
 learned_clauses (Delete ids ∷ steps) = learned_clauses steps
-
--- a learned log for the formula
-abbrev pub IsLearnedLog : List (List Lit) → ℕ → List Step → Type 0
-IsLearnedLog cs leaves log = IsLearned (numbered cs) (length cs) cs [] leaves log
 
 -- a clause that may be learned after these
 pub record StepOk (leaves : ℕ) (clauses : List (List Lit)) (c : List Lit) (hints : List ℤ) : Type 0 where
@@ -64,19 +59,12 @@ pub record Ready (cs clauses : List (List Lit)) (leaves : ℕ) (log : List Step)
   pub order : InOrder (length cs) log
   pub implied : (w : ℕ → Bool) → IsModel w cs → IsModel w clauses
 
--- a learned log of at most budget steps, then the empty addition
-pub record RefutesWithin (cs : List (List Lit)) (leaves budget : ℕ) (log : List Step) : Type 0 where
-  pub steps : List Step
-  pub learned : IsLearnedLog cs leaves steps
-  pub few : length steps ≤ budget
-  pub ends : (id : ℕ) × (hints : List ℤ) × (log ≡ steps ++ Add id [] hints ∷ [])
-  pub refuted : refutes cs log ≡ true
+-- what an answer for these clauses, variables, leaves and budget says
+abbrev pub OutcomeSays : List (List Lit) → ℕ → ℕ → ℕ → Outcome → Type 0
+OutcomeSays cs variables leaves budget (Sat values) = IsFirstModel cs leaves (value_at values) × (length values ≡ variables)
+OutcomeSays cs variables leaves budget (Unsat log) = RefutesWithin cs leaves budget log
+OutcomeSays cs variables leaves budget (Spent log) = IsLearnedLog cs leaves log × (length log ≡ budget)
 
-abbrev pub OutcomeSays : List (List Lit) → ℕ → ℕ → Outcome → Type 0
-OutcomeSays cs leaves budget (Sat values) = IsFirstModel cs leaves (λ x. as_true (reads values.items x))
-OutcomeSays cs leaves budget (Unsat log) = RefutesWithin cs leaves budget log
-OutcomeSays cs leaves budget (Spent log) = IsLearnedLog cs leaves log × (length log ≡ budget)
-
-abbrev pub AttemptSays : List (List Lit) → ℕ → Attempt → Type 0
-AttemptSays cs leaves (Full values) = (marks : List Mark) × FullTrail cs leaves marks values.items
-AttemptSays cs leaves (Learn c hints) = IsAnalysed cs leaves c.items hints.items
+abbrev pub AttemptSays : List (List Lit) → ℕ → ℕ → Attempt → Type 0
+AttemptSays cs leaves size (Full values) = ((marks : List Mark) × FullTrail cs leaves marks values.items) × (length values.items ≡ size)
+AttemptSays cs leaves size (Learn c hints) = IsAnalysed cs leaves c.items hints.items

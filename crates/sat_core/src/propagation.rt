@@ -4,11 +4,9 @@ ghost use Rattle.cnf_core.specs.Values.{is_false, is_true, standing_of, joined};
 ghost use Rattle.cnf_core.specs.Closed.{IsClosed};
 ghost use Rattle.sat_core.specs.Sync.{reads, Fits, UnitFits, IsSynced, IsConflict, Grew, PassSays};
 
-use std::alloc::AllocError;
-
-use cnf_core::{Clause, Lit, Standing};
-
 use crate::trail::Mark;
+use bits_core::NoMemory;
+use cnf_core::{Clause, Lit, Standing};
 
 /// What one pass over the clauses came to.
 #[derive(Clone, Copy)]
@@ -68,7 +66,12 @@ fn standing(values: &[Option<bool>], clause: &[Lit]) -> Standing
     standing
 }
 
-pub fn make_true(marks: &mut Vec<Mark>, values: &mut [Option<bool>], lit: Lit, reason: usize) -> Result<(), AllocError>
+pub fn make_true(
+    marks: &mut Vec<Mark>,
+    values: &mut [Option<bool>],
+    lit: Lit,
+    reason: usize,
+) -> Result<(), NoMemory>
     requires { variable_of lit < length values.old }
     ensures marks { OnOk result (marks.new.items ≡ marks.old.items ++ record { lit = lit; reason = reason } ∷ []) }
     ensures values { OnOk result (values.new ≡ slice_set values.old (variable_of lit) (Some (is_positive lit))) }
@@ -79,7 +82,12 @@ pub fn make_true(marks: &mut Vec<Mark>, values: &mut [Option<bool>], lit: Lit, r
 }
 
 /// Makes the literals of unit clauses true, each clause looked at once.
-fn look_through(clauses: &[Clause], leaves: u32, marks: &mut Vec<Mark>, values: &mut [Option<bool>]) -> Result<Pass, AllocError>
+fn look_through(
+    clauses: &[Clause],
+    leaves: u32,
+    marks: &mut Vec<Mark>,
+    values: &mut [Option<bool>],
+) -> Result<Pass, NoMemory>
     requires fit { All (Fits (length values.old)) clauses.now }
     requires synced { IsSynced clauses.now leaves marks.old.items values.old }
     ensures grew { OnOk result (Grew clauses.now leaves marks.old.items values.old marks.new.items values.new) }
@@ -98,11 +106,20 @@ fn look_through(clauses: &[Clause], leaves: u32, marks: &mut Vec<Mark>, values: 
             Standing::Neither => {}
         }
     }
-    if changed { Ok(Pass::Changed) } else { Ok(Pass::Quiet) }
+    if changed {
+        Ok(Pass::Changed)
+    } else {
+        Ok(Pass::Quiet)
+    }
 }
 
 /// Makes the literals of unit clauses true until nothing is left to do, or a clause is falsified.
-pub fn propagate(clauses: &[Clause], leaves: u32, marks: &mut Vec<Mark>, values: &mut [Option<bool>]) -> Result<Option<usize>, AllocError>
+pub fn propagate(
+    clauses: &[Clause],
+    leaves: u32,
+    marks: &mut Vec<Mark>,
+    values: &mut [Option<bool>],
+) -> Result<Option<usize>, NoMemory>
     requires fit { All (Fits (length values.old)) clauses.now }
     requires synced { IsSynced clauses.now leaves marks.old.items values.old }
     ensures grew { OnOk result (Grew clauses.now leaves marks.old.items values.old marks.new.items values.new) }

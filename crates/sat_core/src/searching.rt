@@ -6,13 +6,12 @@ ghost use Rattle.sat_core.specs.Solved.{IsAnalysed};
 ghost use Rattle.sat_core.specs.Sync.{reads, Fits, IsSynced};
 ghost use Rattle.sat_core.specs.Round.{RoundSays, IsLeastOpen, BeforeClosed, FullTrail};
 
-use std::alloc::{AllocError, Global};
-
-use cnf_core::{Clause, Lit};
-
 use crate::analysis::analyse;
 use crate::propagation::{make_true, propagate};
 use crate::trail::Mark;
+use bits_core::NoMemory;
+use cnf_core::{Clause, Lit};
+use std::alloc::Global;
 
 /// How a search from an empty trail ended.
 #[derive(Clone, Copy)]
@@ -24,7 +23,7 @@ pub enum Round {
 /// The least leaf with no value.
 fn open_leaf(values: &[Option<bool>], leaves: u32) -> Option<u32>
     requires fit { leaves < length values.now }
-    requires small { leaves < 2 ^ 31 }
+    requires small { leaves < 2 ^ 30 }
     ensures { MatchOption result ((x : ℕ) → 1 ≤ x → x ≤ leaves → reads values.now x ≡ None → ⊥) (λ x. IsLeastOpen leaves (reads values.now) x) }
 {
     let mut leaf = 1;
@@ -38,10 +37,15 @@ fn open_leaf(values: &[Option<bool>], leaves: u32) -> Option<u32>
 }
 
 /// Decides leaves, the least open one first, until all have values or a clause is falsified.
-pub fn search(clauses: &[Clause], leaves: u32, marks: &mut Vec<Mark>, values: &mut [Option<bool>]) -> Result<Round, AllocError>
+pub fn search(
+    clauses: &[Clause],
+    leaves: u32,
+    marks: &mut Vec<Mark>,
+    values: &mut [Option<bool>],
+) -> Result<Round, NoMemory>
     requires fit { All (Fits (length values.old)) clauses.now }
     requires leaves_fit { leaves < length values.old }
-    requires small { leaves < 2 ^ 31 }
+    requires small { leaves < 2 ^ 30 }
     requires synced { IsSynced clauses.now leaves marks.old.items values.old }
     requires closed { BeforeClosed clauses.now marks.old.items }
     ensures synced { OnOk result (IsSynced clauses.now leaves marks.new.items values.new) }
@@ -54,17 +58,24 @@ pub fn search(clauses: &[Clause], leaves: u32, marks: &mut Vec<Mark>, values: &m
         }
         match open_leaf(values, leaves) {
             None => return Ok(Round::Full),
-            Some(leaf) => make_true(marks, values, Lit::negative(leaf), 0)?,
+            Some(leaf) => make_true(marks, values, Lit::of(leaf, false), 0)?,
         }
     }
 }
 
 /// One search from an empty trail: nothing where it ends full, else the clause to learn and its hints.
-pub fn attempt(alloc: Global, clauses: &[Clause], leaves: u32, marks: &mut Vec<Mark>, values: &mut [Option<bool>], need: &mut [bool]) -> Result<Option<(Vec<Lit>, Vec<i64>)>, AllocError>
+pub fn attempt(
+    alloc: Global,
+    clauses: &[Clause],
+    leaves: u32,
+    marks: &mut Vec<Mark>,
+    values: &mut [Option<bool>],
+    need: &mut [bool],
+) -> Result<Option<(Vec<Lit>, Vec<i64>)>, NoMemory>
     requires fit { All (Fits (length values.old)) clauses.now }
     requires leaves_fit { leaves < length values.old }
-    requires small_leaves { leaves < 2 ^ 31 }
-    requires small { length values.old ≤ 2 ^ 31 }
+    requires small_leaves { leaves < 2 ^ 30 }
+    requires small { length values.old ≤ 2 ^ 30 }
     requires few { length clauses.now < 2 ^ 62 }
     requires same { length need.old ≡ length values.old }
     requires clear { (x : ℕ) → needs need.old x ≡ false }

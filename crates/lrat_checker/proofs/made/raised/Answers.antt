@@ -1,4 +1,4 @@
-use Rattle.std.proofs.Common.{◌+◌, ◌<◌, ℕ, arith, ap}
+use Rattle.std.proofs.Common.{◌+◌, ◌<◌, arith, ap}
 use Rattle.cnf_core.specs.declared.lit.Lit.{Lit}
 use Rattle.cnf_core.specs.Lit.{variable_of}
 use Rattle.lrat_checker.proofs.RaiseLaws.{All_raised, All_at_end}
@@ -8,7 +8,7 @@ pub loop-lit-preserved : goal.loop-lit-preserved
 loop-lit-preserved c = record {
   above = omega arith;
   fits = All_raised (λ (l : Lit). variable_of l < c.loop-lit.most + 1) (λ (l : Lit). variable_of l < c.max-most.result + 1) (λ x h. omega arith)
-    c.args.clause.now c.loop-lit.lit-index c.lit-item.result (omega arith) c.loop-lit.invariant.fits (omega (arith, ap variable_of c.lit-item.is))
+      c.args.clause.now c.loop-lit.lit-index c.lit-item.result (omega arith) c.loop-lit.invariant.fits (omega (arith, ap variable_of c.lit-item.is));
 }
 
 pub returns-clause-fits : goal.returns-clause-fits

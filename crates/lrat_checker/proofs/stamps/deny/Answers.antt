@@ -1,4 +1,4 @@
-use Rattle.std.proofs.Common.{arith, ◌≡◌, ℕ, pos, ◌+◌, ◌<◌, ◌∷◌, refl, sym, ap, ◌∙◌, length, get_or, take, drop}
+use Rattle.std.proofs.Common.{arith, ◌≡◌, ◌+◌, ◌<◌, ◌∷◌, sym, ap, ◌∙◌, length, get_or, take, drop}
 use Rattle.std.specs.List.{fold}
 use Rattle.std.proofs.lemmas.List.{at_drop_more}
 use Rattle.std.proofs.lemmas.List.Sums.{fold_more}
@@ -7,7 +7,7 @@ use Rattle.cnf_core.specs.Lit.{variable_of}
 use Rattle.cnf_core.specs.Values.{Values, no_values, make_false}
 use Rattle.lrat_checker.specs.Marks.{reads}
 use Rattle.lrat_checker.proofs.MarkLaws.{reads_unused, reads_denied, stamps-set}
-use Rattle.lrat_checker.proofs.ComplementLaws.{left_to_find, left_to_find-none, left_to_find-cons, left_to_find-found}
+use Rattle.lrat_checker.proofs.ComplementLaws.{left_to_find, left_to_find-none, left_to_find-cons}
 use Rattle.lrat_checker.proofs.stamps.deny.Goals as goal
 
 pub loop-lit-init : goal.loop-lit-init
@@ -16,7 +16,7 @@ loop-lit-init c =
     record {
       values = unused;
       stamps = λ k d h. omega (arith, c.requires.unused k d h);
-      rest = rw unused (left_to_find-none c.args.lits.now)
+      rest = rw unused (left_to_find-none c.args.lits.now);
     }
 
 pub loop-lit-preserved : goal.loop-lit-preserved
@@ -32,11 +32,11 @@ loop-lit-preserved c =
     let step : reads new s ≡ make_false (reads old s) l = reads_denied old new s l room c.assign.ensures in
     record {
       values = step ∙ ap (λ (a : Values). make_false a l) c.loop-lit.invariant.values
-        ∙ ap (make_false (fold make_false no_values (take i lits))) same ∙ sym (fold_more make_false no_values lits i l (omega arith));
+          ∙ ap (make_false (fold make_false no_values (take i lits))) same ∙ sym (fold_more make_false no_values lits i l (omega arith));
       stamps = stamps-set old new s _ _ c.assign.ensures c.loop-lit.invariant.stamps;
       rest = ap (λ (a : Values). left_to_find a (drop (i + 1) lits)) step
-        ∙ sym (left_to_find-cons (reads old s) l (drop (i + 1) lits) (sym c.if-is_true.ensures))
-        ∙ ap (λ (k : Lit). left_to_find (reads old s) (k ∷ drop (i + 1) lits)) same
-        ∙ sym (at_drop_more (left_to_find (reads old s)) lits i l (omega arith))
-        ∙ c.loop-lit.invariant.rest
+          ∙ sym (left_to_find-cons (reads old s) l (drop (i + 1) lits) (sym c.if-is_true.ensures))
+          ∙ ap (λ (k : Lit). left_to_find (reads old s) (k ∷ drop (i + 1) lits)) same
+          ∙ sym (at_drop_more (left_to_find (reads old s)) lits i l (omega arith))
+          ∙ c.loop-lit.invariant.rest;
     }
