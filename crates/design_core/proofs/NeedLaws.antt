@@ -102,7 +102,7 @@ put_other_later lost v t = refl
 put_other_later (in_signal b) v t = refl
 put_other_later (in_local j k) v t = refl
 
-puts_other_later : (ps : List Place) (vs : List Bool) (t : St) → (puts true ps vs t).later ≡ t.later
+pub puts_other_later : (ps : List Place) (vs : List Bool) (t : St) → (puts true ps vs t).later ≡ t.later
 puts_other_later [] vs t = refl
 puts_other_later (p ∷ ps) vs t = put_other_later p (first_bit vs) (puts true ps (rest_bits vs) t) ∙ puts_other_later ps (rest_bits vs) t
 

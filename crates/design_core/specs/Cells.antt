@@ -1,6 +1,6 @@
 -- Items as cells: what they drive, what they read, and what they give. Here a design is a list of cells, and no expression is seen:
 -- settled assignments, the next state, windows and runs, and slices.
-use Rattle.std.specs.Prelude.{◌≡◌, ℕ, suc, ◌<◌, ◌≤◌, Bool, true, false, ◌&&◌, ◌||◌, if◌then◌else◌, List, [], ◌∷◌, ◌⊎◌, Option, Some}
+use Rattle.std.specs.Prelude.{◌≡◌, ℕ, suc, ◌<◌, ◌≤◌, Bool, true, false, not, ◌&&◌, ◌||◌, if◌then◌else◌, List, [], ◌∷◌, ◌⊎◌, Option, Some}
 
 -- a value for each bit; B is the type of bits, by number or by name
 abbrev pub Bitmap : Type 0 → Type 0
@@ -79,11 +79,15 @@ pub record IsSlice {B : Type 0} (E S : List (Cell B)) (R : B → Bool) : Type 0 
   pub reads_in : (c : Cell B) → In c S → (b : B) → c.reads b ≡ true → R b ≡ true
   pub uses_in : (c : Cell B) → In c S → (b : B) → c.uses b ≡ true → R b ≡ true
 
+-- what an item reads: within the cycle, and at its end without the bits that it drives itself
+abbrev pub cell_reads : {B : Type 0} → Cell B → B → Bool
+cell_reads c b = c.reads b || (c.uses b && not (c.drives b))
+
 -- a part of the cells that holds each one that drives a wanted bit or a bit that a member reads
 pub record IsClosedFrom {B : Type 0} (E : List (Cell B)) (bits : B → Bool) (S : List (Cell B)) : Type 0 where
   pub inside : (c : Cell B) → In c S → In c E
   pub starts : (c : Cell B) → In c E → (b : B) → bits b ≡ true → c.drives b ≡ true → In c S
-  pub grows : (c d : Cell B) → In c E → In d S → (b : B) → (d.reads b || d.uses b) ≡ true → c.drives b ≡ true → In c S
+  pub grows : (c d : Cell B) → In c E → In d S → (b : B) → cell_reads d b ≡ true → c.drives b ≡ true → In c S
 
 -- the slice of the wanted bits: the least such part
 pub record IsSliceOf {B : Type 0} (E : List (Cell B)) (bits : B → Bool) (S : List (Cell B)) : Type 0 where

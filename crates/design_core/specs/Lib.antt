@@ -11,4 +11,5 @@ pub mod Setups
 pub mod Leaves
 pub mod Reach
 pub mod Names
+pub mod Plain
 pub mod Designs

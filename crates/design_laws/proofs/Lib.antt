@@ -1,0 +1,15 @@
+pub mod OrderLaws
+pub mod TraceLaws
+pub mod RowLaws
+pub mod PartLaws
+pub mod ItemLaws
+pub mod ReachLaws
+pub mod LeafLaws
+pub mod CutLaws
+pub mod NameLaws
+pub mod NeedItemLaws
+pub mod SliceLaws
+pub mod NamedItemLaws
+pub mod SeenLaws
+pub mod PlainLaws
+pub mod RunLaws

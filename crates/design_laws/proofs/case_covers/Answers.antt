@@ -1,0 +1,5 @@
+use Rattle.design_core.proofs.CoverLaws.{completed}
+use Rattle.design_laws.proofs.case_covers.Goals as goal
+
+pub returns : goal.returns
+returns c = λ s full h t. completed h t

@@ -1,0 +1,82 @@
+//! Laws of designs: what values and bodies depend on, one settled assignment, sound cuts, slices that decide, launches that are free.
+//! Each is a function with an empty body whose contract is the law.
+#![tactic(auto)]
+
+ghost use Rattle.std.specs.Prelude.{ℕ, List};
+ghost use Rattle.design_core.specs.declared.place.BitRef.{BitRef};
+ghost use Rattle.design_laws.specs.Laws.{ValueByReads, ExecByReads, ExecByDrives, CaseCovers, SettlesOnce, SettledPlain, NextPlain, ReadsPlain, CutIsOrdered, CutIsSound, UnblockedBreaks, SliceIsClosed, SliceIsOne, SliceDecides, SliceFirst, SliceAlone, NamesDecide, NamesFirst, OrderIsFree, RunHasWindow, BitsDecide, HeldAreInputs, NeedsDecide, FreeLaunch, FreeBySet};
+
+/// Values and bodies depend on the bits that they read alone, and a body changes the bits that it drives alone.
+pub fn bodies_by_bits()
+    ensures value { ValueByReads }
+    ensures exec { ExecByReads }
+    ensures drives { ExecByDrives }
+{}
+
+/// A `case` of which some item always matches may take its last arm untested.
+pub fn case_covers()
+    ensures { CaseCovers }
+{}
+
+/// An ordered design has exactly one settled assignment for each stored state and input.
+pub fn settles_once()
+    ensures { SettlesOnce }
+{}
+
+/// Settled assignments and the next state in the language's own words: items leave the assignment as it is, and a register takes the last write to it.
+pub fn cells_are_plain()
+    ensures settled { SettledPlain }
+    ensures next { NextPlain }
+    ensures reads { ReadsPlain }
+{}
+
+/// A cut of an ordered design is one too, and a row that is valid in the cut is valid in the whole.
+pub fn cut_is_sound()
+    ensures ordered { CutIsOrdered }
+    ensures valid { CutIsSound }
+{}
+
+/// A row that breaks in a cut with no blocking box breaks in the whole.
+pub fn unblocked_breaks()
+    ensures { UnblockedBreaks }
+{}
+
+/// The slice is the least closed part; with the bits that it reads it is closed, and it is one.
+pub fn slice_is_least()
+    ensures closed { SliceIsClosed }
+    ensures one { SliceIsOne }
+{}
+
+/// The slice decides: designs with the same slice break a row both or neither, with the same first values.
+pub fn slice_decides()
+    ensures breaks { SliceDecides }
+    ensures first { SliceFirst }
+    ensures alone { SliceAlone }
+{}
+
+/// The slice decides by the names of bits, where a name is the bytes of a path and a place, or a bit under another number.
+pub fn names_decide()
+    ensures breaks { NamesDecide (List ℕ × ℕ) }
+    ensures first { NamesFirst (List ℕ × ℕ) }
+    ensures breaks_renumbered { NamesDecide BitRef }
+    ensures first_renumbered { NamesFirst BitRef }
+{}
+
+/// The order of items does not matter to what can break.
+pub fn order_is_free()
+    ensures { OrderIsFree }
+{}
+
+/// A valid row holds at every launch of every run, and a row breaks where one of its bits does.
+pub fn runs_and_bits()
+    ensures run { RunHasWindow }
+    ensures bits { BitsDecide }
+    ensures held { HeldAreInputs }
+{}
+
+/// A launch-free row that breaks in a window breaks in a run at the first launch.
+pub fn free_launch()
+    ensures needs { NeedsDecide }
+    ensures breaks { FreeLaunch }
+    ensures by_set { FreeBySet }
+{}
