@@ -5,3 +5,8 @@ pub mod Accepted
 pub mod Closed
 pub mod Learned
 pub mod Gates
+pub mod Text
+pub mod Numbers
+pub mod Separators
+pub mod Dimacs
+pub mod DimacsText

@@ -54,6 +54,17 @@ impl Lit {
         }
     }
 
+    /// The literal of an integer that is not 0.
+    pub fn of_integer(value: i64) -> Lit
+        requires full { 1 ≤ unsigned_abs value }
+        requires below { unsigned_abs value < 2 ^ 30 }
+        ensures { result ≡ value }
+    {
+        Lit {
+            value: value as i32,
+        }
+    }
+
     /// The number: the variable, or below 0 its negation.
     pub fn value(self) -> i32
         ensures { result ≡ self }
