@@ -22,8 +22,8 @@ pub record Follows (value exact : ℕ) : Type 0 where
 follows_by : (value exact next d : ℕ) → Follows value exact → next ≡ exact * 10 + d → Follows (min value (2 ^ 60) * 10 + d) next
 follows_by value exact next d f e =
     elim (cases_lt exact (10 * 2 ^ 60)) [
-      inl lt ↦ let s = f.small lt in record { small = λ h. omega arith; large = λ h. omega arith }
-    | inr le ↦ let s = f.large le in record { small = λ h. omega arith; large = λ h. omega arith }
+      | inl lt ↦ let s = f.small lt in record { small = λ h. omega arith; large = λ h. omega arith }
+      | inr le ↦ let s = f.large le in record { small = λ h. omega arith; large = λ h. omega arith }
     ]
 
 pub follows_more : (value : ℕ) (w : List ℕ) (i b : ℕ) → i < length w → b ≡ get_or w i 0 → IsInRange 48 57 b → Follows value (digits_value 10 (take i w)) → Follows (min value (2 ^ 60) * 10 + (b - 48)) (digits_value 10 (take (i + 1) w))
@@ -31,7 +31,7 @@ follows_more value w i b lt e r f =
     let d = digit_value_digit b r in
     let m = digits_value_more 10 w i lt in
     follows_by value (digits_value 10 (take i w)) (digits_value 10 (take (i + 1) w)) (b - 48) f
-      (m ∙ ap (λ (x : ℕ). digits_value 10 (take i w) * 10 + digit_value x) (sym e) ∙ ap (λ (x : ℕ). digits_value 10 (take i w) * 10 + x) (omega arith))
+    (m ∙ ap (λ (x : ℕ). digits_value 10 (take i w) * 10 + digit_value x) (sym e) ∙ ap (λ (x : ℕ). digits_value 10 (take i w) * 10 + x) (omega arith))
 
 all_digits_more : (w : List ℕ) (i b : ℕ) → i < length w → b ≡ get_or w i 0 → all_ascii_digits (drop i w) ≡ (is_ascii_digit b && all_ascii_digits (drop (i + 1) w))
 all_digits_more w i b lt e = at_drop_more all_ascii_digits w i 0 lt ∙ ap (λ (x : ℕ). is_ascii_digit x && all_ascii_digits (drop (i + 1) w)) (sym e)
@@ -47,7 +47,7 @@ no_digits false a l v h = refl
 pub digits_stop : (bound : ℕ) (w : List ℕ) (i b : ℕ) → i < length w → b ≡ get_or w i 0 → is_ascii_digit b ≡ false → all_ascii_digits (drop i w) ≡ all_ascii_digits w → None ≡ number_below bound w
 digits_stop bound w i b lt e t h =
     sym (no_digits (is_full w) (all_ascii_digits w) (ltb (digits_value 10 w) bound) (digits_value 10 w)
-      (sym h ∙ all_digits_more w i b lt e ∙ ap (λ (x : Bool). x && all_ascii_digits (drop (i + 1) w)) t))
+    (sym h ∙ all_digits_more w i b lt e ∙ ap (λ (x : Bool). x && all_ascii_digits (drop (i + 1) w)) t))
 
 full_from : (w : List ℕ) → 0 < length w → is_full w ≡ true
 full_from [] h = absurd (omega arith)

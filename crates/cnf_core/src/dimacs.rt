@@ -4,15 +4,14 @@ ghost use Rattle.cnf_core.specs.Dimacs.{IsCounted, stepped, read_words, finished
 ghost use Rattle.std.specs.Int.RustNames.{unsigned_abs};
 ghost use Rattle.std.specs.Str.{bytes_eq};
 
-use bits_core::{Items, NoMemory};
-use std::alloc::Global;
-use std::mem;
-
 use crate::fault::TextFault;
 use crate::formula::{Clause, ClauseList, Formula};
 use crate::lit::Lit;
 use crate::numbers::{integer, number};
 use crate::text::{Separator, cut, is_comment, next_word};
+use bits_core::{Items, NoMemory};
+use std::alloc::Global;
+use std::mem;
 
 /// What the next word of a DIMACS text has to be.
 #[derive(Clone, Copy)]

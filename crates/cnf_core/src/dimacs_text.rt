@@ -1,11 +1,10 @@
 ghost use Rattle.std.specs.Prelude.{◌≡◌, ◌++◌, OnOk, OnErr};
 ghost use Rattle.cnf_core.specs.DimacsText.{clause_text, clauses_text, dimacs_text};
 
-use bits_core::NoMemory;
-
 use crate::formula::{Clause, Formula};
 use crate::lit::Lit;
 use crate::numbers::{push_integer, push_number};
+use bits_core::NoMemory;
 
 fn push_clause(out: &mut Vec<u8>, clause: &[Lit]) -> Result<(), NoMemory>
     ensures { OnOk result (out.new.items ≡ out.old.items ++ clause_text clause.now) }

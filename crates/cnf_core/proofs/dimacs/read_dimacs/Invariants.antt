@@ -8,7 +8,7 @@ invariant-loop-rest l = record {
   words : read_words start (words_from 1 (text_lines l.bytes)) ≡ read_words l.reading (words_from (l.line + 1) (text_lines l.rest));
   lines : l.line + length (text_lines l.rest) ≡ length (text_lines l.bytes);
   within : l.line + length l.rest ≤ length l.bytes;
-  small : l.reading.variables < 2 ^ 30
+  small : l.reading.variables < 2 ^ 30;
 }
 
 abbrev pub decreases-loop-rest : goal.decreases-loop-rest

@@ -12,9 +12,9 @@ returns t c =
     let d : List ℕ = (48 + n % 10) ∷ [] in
     let start = c.in_ok-push.ensures.items in
     elim c.if-value-ge10.branch [
-      then-value-ge10+in_ok-push_number w ↦
-        start ∙ rw w.out-is (ap (λ (xs : List ℕ). xs ++ d) w.in_ok-push_number.ensures
-        ∙ append_assoc old (decimal (n / 10)) d ∙ ap (λ (xs : List ℕ). old ++ xs) (sym (decimal_step n (omega arith) (omega arith))))
-    | else-value-ge10 w ↦
-        start ∙ rw w.out-is (ap (λ (xs : List ℕ). old ++ xs) (digit_of_small n (omega arith)))
+      | then-value-ge10+in_ok-push_number w ↦
+          start ∙ rw w.out-is (ap (λ (xs : List ℕ). xs ++ d) w.in_ok-push_number.ensures
+          ∙ append_assoc old (decimal (n / 10)) d ∙ ap (λ (xs : List ℕ). old ++ xs) (sym (decimal_step n (omega arith) (omega arith))))
+      | else-value-ge10 w ↦
+          start ∙ rw w.out-is (ap (λ (xs : List ℕ). old ++ xs) (digit_of_small n (omega arith)))
     ]

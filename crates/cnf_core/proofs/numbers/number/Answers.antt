@@ -12,6 +12,6 @@ loop-byte-preserved c =
     let t : is_ascii_digit b ≡ true = sym c.is_ascii_digit.ensures.value ∙ c.if-not-is_ascii_digit.false in
     record {
       value = subst (λ (m : ℕ). Follows (m * 10 + (b - 48)) (digits_value 10 (take (i + 1) w))) (sym c.min.ensures)
-        (follows_more c.loop-byte.value w i b (omega arith) refl (digit_range b t) c.loop-byte.invariant.value);
-      digits = digits_go_on w i b (omega arith) refl t c.loop-byte.invariant.digits
+          (follows_more c.loop-byte.value w i b (omega arith) refl (digit_range b t) c.loop-byte.invariant.value);
+      digits = digits_go_on w i b (omega arith) refl t c.loop-byte.invariant.digits;
     }

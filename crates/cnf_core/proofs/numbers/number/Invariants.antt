@@ -7,5 +7,5 @@ use Rattle.cnf_core.proofs.numbers.number.Given as goal
 abbrev pub invariant-loop-byte : goal.invariant-loop-byte
 invariant-loop-byte l = record {
   value : Follows l.value (digits_value 10 (take l.byte-index l.word));
-  digits : all_ascii_digits (drop l.byte-index l.word) ≡ all_ascii_digits l.word
+  digits : all_ascii_digits (drop l.byte-index l.word) ≡ all_ascii_digits l.word;
 }

@@ -1,0 +1,6 @@
+use Rattle.std.proofs.Common.{◌≡◌, ◌++◌, drop}
+use Rattle.lrat_checker.specs.LratText.{numbers_text}
+use Rattle.lrat_checker.proofs.writing.push_ids.Given as goal
+
+abbrev pub invariant-loop-id : goal.invariant-loop-id
+invariant-loop-id l = l.out.items ++ numbers_text (drop l.id-index l.ids) ≡ l.initial.out.items ++ numbers_text l.ids

@@ -1,0 +1,34 @@
+-- The LRAT text that is written for a log, and the logs that a text can hold.
+use Rattle.std.specs.Prelude.{◌≡◌, ℕ, ◌+◌, ◌^◌, ◌≤◌, ◌<◌, ℤ, pos, negsuc, Bool, true, List, [], ◌∷◌, ◌++◌, codes}
+use Rattle.std.specs.Int.RustNames.{unsigned_abs}
+use Rattle.std.specs.Fmt.{decimal, signed_decimal}
+use Rattle.cnf_core.specs.declared.formula.Step.{Step}
+use Rattle.cnf_core.specs.declared.formula.Step.TheVariants.{Add, Delete}
+use Rattle.lrat_checker.specs.Lrat.{all_positive}
+
+-- the numbers, each with a blank behind it, and 0
+abbrev pub numbers_text : List ℤ → List ℕ
+numbers_text [] = 48 ∷ []
+numbers_text (z ∷ zs) = signed_decimal z ++ 32 ∷ numbers_text zs
+
+abbrev pub step_text : Step → List ℕ
+step_text (Add id lits hints) = decimal id ++ 32 ∷ numbers_text lits ++ 32 ∷ numbers_text hints ++ 10 ∷ []
+step_text (Delete ids) = codes "1 d " ++ numbers_text ids ++ 10 ∷ []
+
+abbrev pub log_text : List Step → List ℕ
+log_text [] = []
+log_text (s ∷ ss) = step_text s ++ log_text ss
+
+-- numbers that are not 0, of absolute values below a bound
+abbrev pub AllFit : ℕ → List ℤ → Type 0
+AllFit bound [] = Unit {0}
+AllFit bound (z ∷ zs) = (1 ≤ unsigned_abs z) × (unsigned_abs z < bound) × AllFit bound zs
+
+-- a step that a line can hold
+abbrev pub StepInText : Step → Type 0
+StepInText (Add id lits hints) = (1 ≤ id) × (id < 2 ^ 63) × AllFit (2 ^ 30) lits × AllFit (2 ^ 63) hints
+StepInText (Delete ids) = AllFit (2 ^ 63) ids × (all_positive ids ≡ true)
+
+abbrev pub LogInText : List Step → Type 0
+LogInText [] = Unit {0}
+LogInText (s ∷ ss) = StepInText s × LogInText ss
