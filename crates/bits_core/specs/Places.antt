@@ -1,5 +1,5 @@
 -- Lists of bits place by place, the lowest first: selects, extension, shifts and the operators that join bits.
-use Rattle.std.specs.Prelude.{ℕ, ◌+◌, ◌-◌, Bool, true, false, not, ◌&&◌, List, [], ◌∷◌, length, map, slice_index_or, ℤ, pos, negsuc, ◌+ℤ◌, ◌-ℤ◌, nat_lt, int_lt, if◌then◌else◌}
+use Rattle.std.specs.Prelude.{ℕ, ◌+◌, ◌-◌, Bool, true, false, not, ◌&&◌, List, [], ◌∷◌, length, map, slice_index_or, ℤ, pos, negsuc, ◌+ℤ◌, ◌-ℤ◌, nat_lt, if◌then◌else◌}
 use Rattle.std.specs.List.{range_with_len, list_any}
 
 -- the bit at a place, or 0 past the end
@@ -38,11 +38,14 @@ extended by_sign n bits = by_place n (λ k. if nat_lt k (length bits) then bit_a
 unfoldable pub selected : ℤ → ℕ → List Bool → List Bool
 selected low n bits = by_place n (λ k. bit_at_int bits (low +ℤ pos k))
 
+-- the bit of a part at a place, which may be negative, or what was there where the part has none
+abbrev pub written : List Bool → ℤ → Bool → Bool
+written part (pos place) old = if nat_lt place (length part) then bit_at part place else old
+written part (negsuc place) old = old
+
 -- the bits of part written over those of whole from a place on; nothing is written outside
 unfoldable pub placed : ℤ → List Bool → List Bool → List Bool
-placed low part whole = by_place (length whole) (λ k.
-    if int_lt (pos k) low then bit_at whole k
-    else (if int_lt (pos k) (low +ℤ pos (length part)) then bit_at_int part (pos k -ℤ low) else bit_at whole k))
+placed low part whole = by_place (length whole) (λ k. written part (pos k -ℤ low) (bit_at whole k))
 
 -- moved up by a number of places, filled with 0
 unfoldable pub shifted_left : ℕ → List Bool → List Bool

@@ -50,3 +50,24 @@ impl<T: Duplicate + Drop> Duplicate for Items<T> {
         Ok(copied)
     }
 }
+
+impl Duplicate for usize {
+    fn copy(&self, alloc: Global) -> Result<usize, NoMemory> {
+        Ok(*self)
+    }
+}
+
+impl Duplicate for i32 {
+    fn copy(&self, alloc: Global) -> Result<i32, NoMemory> {
+        Ok(*self)
+    }
+}
+
+impl<T: Duplicate + Drop> Duplicate for Option<T> {
+    fn copy(&self, alloc: Global) -> Result<Option<T>, NoMemory> {
+        match self {
+            Some(value) => Ok(Some(value.copy(alloc)?)),
+            None => Ok(None),
+        }
+    }
+}
