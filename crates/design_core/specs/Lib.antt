@@ -1,6 +1,7 @@
 pub mod Operators
 pub mod Core
 pub mod Terms
+pub mod Formed
 pub mod Renamed
 pub mod Needs
 pub mod Covers
@@ -12,4 +13,6 @@ pub mod Leaves
 pub mod Reach
 pub mod Names
 pub mod Plain
+pub mod Parts
+pub mod Wellformed
 pub mod Designs

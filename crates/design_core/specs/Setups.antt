@@ -1,7 +1,7 @@
 -- What the outside holds in each cycle, and the power-up state.
 use Rattle.std.specs.Prelude.{ℕ, Bool, true, false, not, if◌then◌else◌, nat_lt, List, [], ◌∷◌, Option, Some, None}
 use Rattle.design_core.specs.declared.place.BitRef.{BitRef}
-use Rattle.design_core.specs.declared.design.PowerUp.{PowerUp}
+use Rattle.design_core.specs.declared.items.PowerUp.{PowerUp}
 use Rattle.design_core.specs.Core.{Assignment, same_bit}
 
 -- the value of a bit by the first entry that names it

@@ -1,3 +1,6 @@
+ghost use Rattle.std.specs.Prelude.{◌≡◌};
+ghost use Rattle.design_core.specs.Wellformed.{carried_weight};
+
 use crate::place::BitRef;
 use crate::tree::{DExpr, DLeft, DStmt};
 use bits_core::Items;
@@ -35,3 +38,23 @@ pub enum Item {
 }
 
 pub type ItemList = Items<Item>;
+
+/// The weight that the item carries.
+pub fn weight(item: &Item) -> u64
+    ensures { result ≡ carried_weight item.now }
+{
+    match item {
+        Item::Assign { weight, .. } => *weight,
+        Item::Comb { weight, .. } => *weight,
+        Item::Clocked { weight, .. } => *weight,
+    }
+}
+
+/// The value of a register bit at power-up.
+#[derive(Clone, Copy, Debug, PartialEq, Eq)]
+pub struct PowerUp {
+    pub bit: BitRef,
+    pub value: bool,
+}
+
+pub type PowerUpList = Items<PowerUp>;

@@ -8,8 +8,8 @@ mod place;
 mod signals;
 mod tree;
 
-pub use design::{Design, PowerUp, PowerUpList};
-pub use items::{DReset, Item, ItemList};
+pub use design::Design;
+pub use items::{DReset, Item, ItemList, PowerUp, PowerUpList, weight};
 pub use operators::{Binary, Unary};
 pub use place::{BitList, BitRef, ItemNumbers, ScopeNumbers};
 pub use signals::{DScopes, Scope, Signal, SignalList};

@@ -1,0 +1,19 @@
+//! Worked cases of the definitions: each operator, and small designs with their rows. Each is a function with an empty body whose contract is the case.
+#![tactic(auto)]
+
+ghost use Rattle.design_cases.specs.OperatorRows.{UnaryRows, ArithmeticRows, BitwiseRows, LessRows, SignRows, EqualRows, ShiftRows, JoinRows, SelectRows, MatchRows, WriteRows};
+
+/// The operators come out as worked by hand.
+pub fn operators_as_worked()
+    ensures unary { UnaryRows }
+    ensures arithmetic { ArithmeticRows }
+    ensures bitwise { BitwiseRows }
+    ensures less { LessRows }
+    ensures sign { SignRows }
+    ensures equal { EqualRows }
+    ensures shift { ShiftRows }
+    ensures join { JoinRows }
+    ensures select { SelectRows }
+    ensures matching { MatchRows }
+    ensures writes { WriteRows }
+{}
