@@ -101,12 +101,12 @@ gates_given a n [] i h given x p q e = given x p (omega arith) e
 gates_given a n (g ∷ gs) i h given x p q e =
     let parts = closed_parts a (gate_clauses (n + 1) g) (gates_clauses (n + 1) gs) h in
     let here : (y : ℕ) → 1 ≤ y → y ≤ n + 1 → a y ≡ None → ⊥ =
-      λ y r s f. elim (cases_lt y (n + 1)) [
-          inl lt ↦ given y r (omega arith) f
-        | inr le ↦
-            let same : y ≡ n + 1 = omega arith in
-            gate_given a (n + 1) g (ap a (sym same) ∙ f) i.0 (λ z t u. given z t (omega arith)) parts.0
-        ] in
+    λ y r s f. elim (cases_lt y (n + 1)) [
+      | inl lt ↦ given y r (omega arith) f
+      | inr le ↦
+          let same : y ≡ n + 1 = omega arith in
+          gate_given a (n + 1) g (ap a (sym same) ∙ f) i.0 (λ z t u. given z t (omega arith)) parts.0
+    ] in
     gates_given a (n + 1) gs i.1 parts.1 here x p (omega arith) e
 
 pub gate_formula_decided : (cs : List (List Lit)) (variables leaves : ℕ) → IsGateFormula cs variables leaves → AreDecided cs variables leaves

@@ -56,7 +56,7 @@ pub pushed : (net : List Node) (x : Node) → IsPushed net x (net ++ x ∷ []) (
 pushed net x = record {
   within = omega (arith, length-append net (x ∷ []));
   worth = λ v. value_last net x v;
-  leaves = λ i. has_leaf-snoc net x i
+  leaves = λ i. has_leaf-snoc net x i;
 }
 
 pub AllRead-snoc : (n : ℕ) (xs : List Node) (x : Node) → AllRead n xs → ReadsBelow (n + length xs) x → AllRead n (xs ++ x ∷ [])
@@ -68,7 +68,7 @@ IsNet-push net x i r lt = record {
   rest = i.rest ++ x ∷ [];
   begins = ap (λ (ns : List Node). ns ++ x ∷ []) i.begins;
   reads = AllRead-snoc 0 net x i.reads (subst (λ (k : ℕ). ReadsBelow k x) (omega arith) r);
-  room = omega (arith, length-append net (x ∷ []))
+  room = omega (arith, length-append net (x ∷ []));
 }
 
 pub reads_at_from : (low : ℕ) (net : List Node) (n : ℕ) (d : Node) → AllRead low net → n < length net → ReadsBelow (low + n) (get_or net n d)
@@ -124,3 +124,29 @@ reads_more n m (Leaf i) le r = tt
 reads_more n m (And a b) le r = (let h = r.0 in omega arith, let h = r.1 in omega arith)
 reads_more n m (Xor a b) le r = (let h = r.0 in omega arith, let h = r.1 in omega arith)
 reads_more n m (Mux c a b) le r = (let h = r.0 in omega arith, let h = r.1 in omega arith, let h = r.2 in omega arith)
+
+run_at : (v : ℕ → Bool) (done : List Bool) (ns : List Node) (k : ℕ) (d : Node) → AllRead (length done) ns → k < length ns → get_or (run v done ns) (length done + k) false ≡ gate_value v (bit_at (run v done ns)) (get_or ns k d)
+run_at v done [] k d all lt = absurd (omega arith)
+run_at v done (n ∷ ns) zero d all lt =
+    let g = gate_value v (bit_at done) n in
+    let more = done ++ g ∷ [] in
+    let long = length-append done (g ∷ []) in
+    ap (λ (k : ℕ). get_or (run v more ns) k false) (omega arith)
+    ∙ value_kept v more ns (length done) (omega arith)
+    ∙ get_or-append_seam done g [] false
+    ∙ gate_same v (bit_at done) (bit_at (run v more ns)) (length done) n all.0
+    (λ j lt. sym (get_or-append done (g ∷ []) false j lt) ∙ sym (value_kept v more ns j (omega arith)))
+run_at v done (n ∷ ns) (suc k) d all lt =
+    let g = gate_value v (bit_at done) n in
+    let more = done ++ g ∷ [] in
+    let long : length more ≡ length done + 1 = omega (arith, length-append done (g ∷ [])) in
+    ap (λ (j : ℕ). get_or (run v more ns) j false) (omega arith)
+    ∙ run_at v more ns k d (subst (λ (j : ℕ). AllRead j ns) (sym long) all.1) (omega arith)
+
+-- the value of a node is its gate's over the values of the net
+pub value_gate : (net : List Node) (v : ℕ → Bool) (k : ℕ) (d : Node) → AllRead 0 net → k < length net → value net v k ≡ gate_value v (value net v) (get_or net k d)
+unfolding value
+value_gate net v k d all lt = ap (λ (j : ℕ). get_or (run v [] net) j false) (omega arith) ∙ run_at v [] net k d all lt
+
+pub reads_all : (net : List Node) (n : ℕ) (d : Node) → AllRead 0 net → n < length net → ReadsBelow n (get_or net n d)
+reads_all net n d all lt = subst (λ (k : ℕ). ReadsBelow k (get_or net n d)) (omega arith) (reads_at_from 0 net n d all lt)

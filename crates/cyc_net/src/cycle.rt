@@ -1,8 +1,7 @@
-use bits_core::{Duplicate, Items, NoMemory};
-use std::alloc::Global;
-
 use crate::net::Net;
 use crate::node::NodeId;
+use bits_core::{Duplicate, Items, NoMemory};
+use std::alloc::Global;
 
 /// A bit, by its number, and the leaf that stands for it.
 #[derive(Clone, Copy, Debug, PartialEq, Eq)]

@@ -1,11 +1,10 @@
 ghost use Rattle.std.specs.Prelude.{◌≡◌, ℕ, ◌<◌, ◌≤◌, ◌^◌, [], ◌∷◌, Bool, false, true, length, slice_index_or, IfOk, OnErr};
-ghost use Rattle.cyc_net.specs.Nets.{value, run, bit_at, gate_value, ReadsBelow, LeavesBelow, LeafBelow, Extends, IsPushed, has_leaf};
+ghost use Rattle.cyc_net.specs.Nets.{value, run, bit_at, gate_value, AllRead, ReadsBelow, LeavesBelow, LeafBelow, Extends, IsPushed, has_leaf};
 
+use crate::node::{Node, NodeId};
 use bits_core::NoMemory;
 use std::alloc::Global;
 use std::marker::Model;
-
-use crate::node::{Node, NodeId};
 
 /// How many nodes a net has room for: 2^27.
 const ROOM: usize = 134_217_728;
@@ -44,6 +43,7 @@ impl Net {
         ensures value { result ≡ length self.now }
         ensures some { 2 ≤ result }
         ensures most { result ≤ 2 ^ 27 }
+        ensures reads { AllRead 0 self.now }
     {
         self.nodes.len()
     }

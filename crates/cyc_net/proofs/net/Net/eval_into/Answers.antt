@@ -10,13 +10,13 @@ pub gate-value-requires-clause-leaf : goal.gate-value-requires-clause-leaf
 gate-value-requires-clause-leaf c =
     let same = c.as_slice-nodes.ensures.value ∙ c.self.view_is in
     leaf_at (length c.args.leaves.now) c.as_slice-nodes.result.now c.loop-at.at (Const false)
-      (subst (LeavesBelow (length c.args.leaves.now)) (sym same) c.requires.leaves) (omega arith)
+    (subst (LeavesBelow (length c.args.leaves.now)) (sym same) c.requires.leaves) (omega arith)
 
 pub gate-value-requires-clause-reads : goal.gate-value-requires-clause-reads
 gate-value-requires-clause-reads c =
     let net : IsNet c.as_slice-nodes.result.now = subst IsNet (sym c.as_slice-nodes.ensures.value) c.self.invariant in
     reads_more c.loop-at.at (length c.loop-at.out) _ (let s = c.loop-at.invariant.size in omega arith)
-      (reads_at c.as_slice-nodes.result.now c.loop-at.at (Const false) net (omega arith))
+    (reads_at c.as_slice-nodes.result.now c.loop-at.at (Const false) net (omega arith))
 
 pub loop-at-preserved : goal.loop-at-preserved
 loop-at-preserved c =
@@ -29,6 +29,6 @@ loop-at-preserved c =
     let is : x ≡ get_or nodes at x = get_or_default nodes at (Const false) x (omega arith) in
     record {
       done = subst (λ (b : Bool). take (at + 1) (set out at b) ≡ run v [] (take (at + 1) nodes)) (sym c.gate-value.ensures)
-        (run_more v nodes out at x (omega arith) (let s = c.loop-at.invariant.size in omega arith) is (reads_at nodes at (Const false) net (omega arith)) c.loop-at.invariant.done);
-      size = length-set out at c.gate-value.result ∙ c.loop-at.invariant.size
+          (run_more v nodes out at x (omega arith) (let s = c.loop-at.invariant.size in omega arith) is (reads_at nodes at (Const false) net (omega arith)) c.loop-at.invariant.done);
+      size = length-set out at c.gate-value.result ∙ c.loop-at.invariant.size;
     }

@@ -5,5 +5,5 @@ use Rattle.cyc_net.proofs.net.Net.eval_into.Given as goal
 abbrev pub invariant-loop-at : goal.invariant-loop-at
 invariant-loop-at l = record {
   done : take l.at l.out ≡ run (bit_at l.leaves) [] (take l.at l.nodes);
-  size : length l.out ≡ length l.nodes
+  size : length l.out ≡ length l.nodes;
 }

@@ -7,7 +7,7 @@ use Rattle.cyc_net.proofs.net.Net.push.Goals as goal
 pub invariant_of-self-2 : goal.invariant_of-self-2
 invariant_of-self-2 c =
     subst IsNet (sym c.in_ok-push.ensures.items)
-      (IsNet-push c.self.inside.nodes.items c.args.node c.self.invariant (subst (λ (ns : List Node). ReadsBelow (length ns) c.args.node) (sym c.self.view_is) c.requires) (grind arith))
+    (IsNet-push c.self.inside.nodes.items c.args.node c.self.invariant (subst (λ (ns : List Node). ReadsBelow (length ns) c.args.node) (sym c.self.view_is) c.requires) (grind arith))
 
 pub returns-clause-made : goal.returns-clause-made
 returns-clause-made c =

@@ -1,0 +1,137 @@
+ghost use Rattle.std.specs.Prelude.{◌≡◌, ℕ, ◌+◌, ◌<◌, ◌≤◌, ◌^◌, [], Bool, true, length, IfOk, OnOk};
+ghost use Rattle.cyc_net.specs.Nets.{LeavesBelow, LeafBelow, bit_at};
+ghost use Rattle.tseitin_cnf.specs.Encoding.{IsEncoded, IsReadSet, IsReadClosed, Walk, walk, begin, with_node};
+ghost use Rattle.tseitin_cnf.specs.Tracks.{Tracks, Good, InputsNamed, numbers};
+
+use crate::clauses::{push_gate, push_one};
+use crate::marking::mark_read;
+use bits_core::{Items, NoMemory};
+use cnf_core::{ClauseList, Formula, Gate};
+use cyc_net::{Net, Node, NodeId};
+use std::alloc::Global;
+
+/// The formula of a goal, and how many of its variables are leaves.
+#[derive(Debug, Drop)]
+pub struct Encoded {
+    pub formula: Formula,
+    pub leaves: u32,
+}
+
+/// Gives a node its variable: that of its leaf, or the one after the last, with the clauses of its gate. Answers the last variable.
+fn add_node(
+    alloc: Global,
+    at: NodeId,
+    node: Node,
+    variables: &mut [u32],
+    last: u32,
+    clauses: &mut ClauseList,
+) -> Result<u32, NoMemory>
+    requires within { at < length variables.old }
+    requires inputs { InputsNamed variables.old node }
+    requires leaf { LeafBelow (2 ^ 27) node }
+    requires room { last + 1 < 2 ^ 30 }
+    ensures { IfOk result (λ now. (leaves : ℕ) (s : Walk) → Tracks leaves s variables.old last clauses.old → Tracks leaves (with_node s at node) variables.new now clauses.new) }
+{
+    let gate = match node {
+        Node::Leaf(number) => {
+            variables[at as usize] = number + 1;
+            return Ok(last);
+        }
+        Node::Const(value) => Gate::Const(value),
+        Node::And(a, b) => Gate::And(variables[a as usize], variables[b as usize]),
+        Node::Xor(a, b) => Gate::Xor(variables[a as usize], variables[b as usize]),
+        Node::Mux(c, a, b) => Gate::Mux(
+            variables[c as usize],
+            variables[a as usize],
+            variables[b as usize],
+        ),
+    };
+    push_gate(alloc, clauses, last + 1, gate)?;
+    variables[at as usize] = last + 1;
+    Ok(last + 1)
+}
+
+/// Gives each marked node its variable, in the order of their numbers. Answers the last variable.
+fn add_nodes(
+    alloc: Global,
+    net: &Net,
+    marks: &[bool],
+    variables: &mut [u32],
+    leaves: u32,
+    clauses: &mut ClauseList,
+) -> Result<u32, NoMemory>
+    requires size { length marks.now ≡ length net.now }
+    requires same { length variables.old ≡ length net.now }
+    requires none { (m : ℕ) → numbers variables.old m ≡ 0 }
+    requires empty { clauses.old ≡ [] }
+    requires few { leaves ≤ 2 ^ 27 }
+    requires leaves { LeavesBelow leaves net.now }
+    requires read { IsReadClosed net.now (bit_at marks.now) }
+    ensures tracks { IfOk result (λ last. Tracks leaves (walk (bit_at marks.now) 0 (begin leaves) net.now) variables.new last clauses.new) }
+    ensures good { OnOk result (Good net.now (bit_at marks.now) leaves (length net.now) (walk (bit_at marks.now) 0 (begin leaves) net.now)) }
+{
+    let mut last = leaves;
+    for at in 0..net.len() {
+        if marks[at] {
+            last = add_node(
+                alloc,
+                at as NodeId,
+                net.node(at as NodeId),
+                variables,
+                last,
+                clauses,
+            )?;
+        }
+    }
+    Ok(last)
+}
+
+/// The formula of a goal, where the nodes that it reads are marked, and no node has a variable.
+fn goal_formula(
+    alloc: Global,
+    net: &Net,
+    marks: &[bool],
+    variables: &mut [u32],
+    leaves: u32,
+    goal: NodeId,
+) -> Result<Formula, NoMemory>
+    requires size { length marks.now ≡ length net.now }
+    requires same { length variables.old ≡ length net.now }
+    requires none { (m : ℕ) → numbers variables.old m ≡ 0 }
+    requires goal { goal < length net.now }
+    requires few { leaves ≤ 2 ^ 27 }
+    requires leaves { LeavesBelow leaves net.now }
+    requires read { IsReadSet net.now goal (bit_at marks.now) }
+    ensures { IfOk result (λ formula. IsEncoded net.now leaves goal (record { formula = formula; leaves = leaves })) }
+{
+    prove!(net.len() <= 1 << 27);
+    let mut clauses = Items::new(alloc);
+    let last = add_nodes(alloc, net, marks, variables, leaves, &mut clauses)?;
+    push_one(alloc, &mut clauses, variables[goal as usize], true)?;
+    Ok(Formula {
+        variables: last,
+        clauses,
+    })
+}
+
+/// The gate formula of a node: leaf i is the variable i + 1, then comes a gate for each node that the goal reads, itself included and leaves
+/// left out, in the order of their numbers, and last a clause that says the goal. Linear in the net for its marks, and else in the
+/// nodes that the goal reads.
+pub fn encode(alloc: Global, net: &Net, leaves: u32, goal: NodeId) -> Result<Encoded, NoMemory>
+    requires goal { goal < length net.now }
+    requires few { leaves ≤ 2 ^ 27 }
+    requires leaves { LeavesBelow leaves net.now }
+    ensures { IfOk result (λ encoded. IsEncoded net.now leaves goal encoded) }
+{
+    let marks = mark_read(alloc, net, goal)?;
+    let mut variables = vec![in alloc; 0u32; net.len()]?;
+    let formula = goal_formula(
+        alloc,
+        net,
+        marks.as_slice(),
+        variables.as_mut_slice(),
+        leaves,
+        goal,
+    )?;
+    Ok(Encoded { formula, leaves })
+}
