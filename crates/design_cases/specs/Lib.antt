@@ -1,1 +1,2 @@
 pub mod OperatorRows
+pub mod WorkedRows

@@ -1,6 +1,7 @@
 //! Worked cases of the definitions: each operator, and small designs with their rows. Each is a function with an empty body whose contract is the case.
 #![tactic(auto)]
 
+ghost use Rattle.design_cases.specs.WorkedRows.{ThroughIsProved, GroundedIsRefuted, GatedByCondition, PipedByTwo, EnabledByCondition, KeptStaysOpen, ClearedAtLaunchOne, CarriedByCondition, ResetIsReleased, SwitchedByCondition, TreeIsRead};
 ghost use Rattle.design_cases.specs.OperatorRows.{UnaryRows, ArithmeticRows, BitwiseRows, LessRows, SignRows, EqualRows, ShiftRows, JoinRows, SelectRows, MatchRows, WriteRows};
 
 /// The operators come out as worked by hand.
@@ -17,3 +18,24 @@ pub fn operators_as_worked()
     ensures matching { MatchRows }
     ensures writes { WriteRows }
 {}
+
+/// Small designs are ordered, their items are good, and their rows are of the kinds worked by hand.
+pub fn rows_as_worked()
+    ensures through { ThroughIsProved }
+    ensures grounded { GroundedIsRefuted }
+    ensures gated { GatedByCondition }
+    ensures piped { PipedByTwo }
+    ensures enabled { EnabledByCondition }
+    ensures kept { KeptStaysOpen }
+    ensures cleared { ClearedAtLaunchOne }
+    ensures carried { CarriedByCondition }
+    ensures reset { ResetIsReleased }
+    ensures switched { SwitchedByCondition }
+{
+}
+
+/// A tree is read as the item that it stands for.
+pub fn tree_is_read()
+    ensures { TreeIsRead }
+{
+}

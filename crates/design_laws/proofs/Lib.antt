@@ -13,3 +13,4 @@ pub mod NamedItemLaws
 pub mod SeenLaws
 pub mod PlainLaws
 pub mod RunLaws
+pub mod ComputedLaws
