@@ -1,3 +1,4 @@
 pub mod OperatorLaws
 pub mod RowTools
 pub mod RowCases
+pub mod TreeCases

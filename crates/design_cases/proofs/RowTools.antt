@@ -1,8 +1,8 @@
 -- What the worked rows share.
 use Rattle.std.proofs.Common.{◌≡◌, ℕ, ◌+◌, ◌<◌, ◌≤◌, Bool, true, false, not, List, [], ◌∷◌, map, inl, inr, refl, sym, ◌∙◌, ap, subst, Option, Some, None, arith, ◌||◌}
 use Rattle.design_core.specs.declared.place.BitRef.{BitRef}
-use Rattle.design_core.specs.Core.{Term, Left, Stmt, write, reads, left_reads, left_drives, surely_names}
-use Rattle.design_core.specs.Cells.{Bitmap, Cell, In, driven, IsLawful, IsOrdered, IsTrace}
+use Rattle.design_core.specs.Core.{Term, Left, reads, left_reads, left_drives, surely_names}
+use Rattle.design_core.specs.Cells.{Bitmap, Cell, In, driven, IsLawful, IsOrdered}
 use Rattle.design_core.specs.Items.{CoreItem, assign, cell_of, IsGood}
 use Rattle.design_core.specs.Rows.{Row, Breaks, IsChecked, CanBreak, IsValid}
 use Rattle.design_cases.specs.WorkedRows.{of, row}
@@ -38,13 +38,19 @@ both_good x y g h z (inr (inr m)) = elim m [ ]
 -- a design is checked for its windows, and for its runs, where the reset input is no driven bit
 pub checked_window : (items : List CoreItem) (reset : Option (BitRef × Bool)) → IsOrdered (map cell_of items) → ((x : CoreItem) → In x items → IsGood x)
     → ((q : BitRef × Bool) → reset ≡ Some q → driven (map cell_of items) q.0 ≡ false) → IsChecked (map cell_of items) (held_in_window [] reset)
-checked_window items reset o good free = record { ordered = o; lawful = all_lawful items good;
-    free = window_free (map cell_of items) [] reset (λ q m. elim m [ ]) free }
+checked_window items reset o good free = record {
+  ordered = o;
+  lawful = all_lawful items good;
+  free = window_free (map cell_of items) [] reset (λ q m. elim m [ ]) free;
+}
 
 pub checked_run : (items : List CoreItem) (reset : Option (BitRef × Bool)) (first : ℕ) → IsOrdered (map cell_of items) → ((x : CoreItem) → In x items → IsGood x)
     → ((q : BitRef × Bool) → reset ≡ Some q → driven (map cell_of items) q.0 ≡ false) → IsChecked (map cell_of items) (held_in_run [] reset first)
-checked_run items reset first o good free = record { ordered = o; lawful = all_lawful items good;
-    free = run_free (map cell_of items) [] reset first (λ q m. elim m [ ]) free }
+checked_run items reset first o good free = record {
+  ordered = o;
+  lawful = all_lawful items good;
+  free = run_free (map cell_of items) [] reset first (λ q m. elim m [ ]) free;
+}
 
 pub no_reset : (E : List (Cell BitRef)) (q : BitRef × Bool) → None ≡ Some q → driven E q.0 ≡ false
 no_reset E q h = cc
@@ -59,20 +65,20 @@ pair_is p q (inr m) = elim m [ ]
 -- a row of one bit is valid where destination and source agree in each computed window that meets the conditions and the held values
 pub valid_when : (E : List (Cell BitRef)) (held : ℕ → BitRef → Option Bool) (source dest latency : ℕ) (conditions : List (BitRef × Bool)) → IsChecked E held
     → ((s : Bitmap BitRef) (i : ℕ → Bitmap BitRef) → ((k : ℕ) → k ≤ latency → (c : BitRef × Bool) → In c conditions → i k c.0 ≡ c.1)
-        → ((k : ℕ) → k ≤ latency → (b : BitRef) (v : Bool) → held k b ≡ Some v → i k b ≡ v)
-        → assigned E s i latency (of dest) ≡ assigned E s i 0 (of source))
+    → ((k : ℕ) → k ≤ latency → (b : BitRef) (v : Bool) → held k b ≡ Some v → i k b ≡ v)
+    → assigned E s i latency (of dest) ≡ assigned E s i 0 (of source))
     → IsValid E held (row source dest latency conditions)
 valid_when E held source dest latency conditions checked agrees w =
     let same = computed E held checked (0 + latency) w.s w.σ w.trace in
     let p = pair_is w.breaks.pair (of source, of dest) w.breaks.is_one in
     no_fixed (w.σ 0 (of source)) (
-        same 0 (omega arith) (of source)
-        ∙ sym (agrees (w.s 0) w.σ
-            (λ k l c m. sym (ap (λ j. w.σ j c.0) (zero_plus k)) ∙ w.breaks.met k l c m)
-            (λ k l. w.trace.holding k (omega arith)))
-        ∙ sym (same latency (omega arith) (of dest))
-        ∙ sym (ap (λ j. w.σ j (of dest)) (zero_plus latency))
-        ∙ sym (ap (λ (q : BitRef × BitRef). w.σ (0 + latency) q.1) p) ∙ w.breaks.differs ∙ ap (λ (q : BitRef × BitRef). not (w.σ 0 q.0)) p)
+    same 0 (omega arith) (of source)
+    ∙ sym (agrees (w.s 0) w.σ
+    (λ k l c m. sym (ap (λ j. w.σ j c.0) (zero_plus k)) ∙ w.breaks.met k l c m)
+    (λ k l. w.trace.holding k (omega arith)))
+    ∙ sym (same latency (omega arith) (of dest))
+    ∙ sym (ap (λ j. w.σ j (of dest)) (zero_plus latency))
+    ∙ sym (ap (λ (q : BitRef × BitRef). w.σ (0 + latency) q.1) p) ∙ w.breaks.differs ∙ ap (λ (q : BitRef × BitRef). not (w.σ 0 q.0)) p)
 
 abbrev pub or_value : Option Bool → Bool → Bool
 or_value None d = d
@@ -90,17 +96,23 @@ stimulus held f k b = or_value (held k b) (f k b)
 pub breaks_so : (E : List (Cell BitRef)) (held : ℕ → BitRef → Option Bool) (p : Bitmap BitRef) (f : ℕ → BitRef → Bool) (r : Row BitRef) (launch : ℕ) → IsChecked E held
     → Breaks r launch (assigned E p (stimulus held f)) → CanBreak E held (Some p) r launch
 breaks_so E held p f r launch checked b = record {
-    s = states E p (stimulus held f); σ = assigned E p (stimulus held f);
-    trace = computed_trace E held checked (launch + r.latency) p (stimulus held f) (λ k l a v. value_of_some (held k a) (f k a) v);
-    begins = λ c m a h k. refl; breaks = b }
+  s = states E p (stimulus held f);
+  σ = assigned E p (stimulus held f);
+  trace = computed_trace E held checked (launch + r.latency) p (stimulus held f) (λ k l a v. value_of_some (held k a) (f k a) v);
+  begins = λ c m a h k. refl;
+  breaks = b;
+}
 
 -- a window from this state with these inputs that breaks the row
 pub window_so : (E : List (Cell BitRef)) (held : ℕ → BitRef → Option Bool) (start : Bitmap BitRef) (f : ℕ → BitRef → Bool) (r : Row BitRef) → IsChecked E held
     → Breaks r 0 (assigned E start (stimulus held f)) → CanBreak E held None r 0
 window_so E held start f r checked b = record {
-    s = states E start (stimulus held f); σ = assigned E start (stimulus held f);
-    trace = computed_trace E held checked (0 + r.latency) start (stimulus held f) (λ k l a v. value_of_some (held k a) (f k a) v);
-    begins = tt; breaks = b }
+  s = states E start (stimulus held f);
+  σ = assigned E start (stimulus held f);
+  trace = computed_trace E held checked (0 + r.latency) start (stimulus held f) (λ k l a v. value_of_some (held k a) (f k a) v);
+  begins = tt;
+  breaks = b;
+}
 
 pub none_between : (t u : ℕ) → t ≤ u → u < t → ⊥
 none_between t u h g = omega arith

@@ -1,2 +1,3 @@
 pub mod OperatorRows
 pub mod WorkedRows
+pub mod TreeRows

@@ -1,5 +1,5 @@
 -- Small designs, with rows that are valid in them, that some run breaks, and that stay open.
-use Rattle.std.specs.Prelude.{◌≡◌, ℕ, ◌+◌, Bool, true, false, ◌||◌, List, [], ◌∷◌, map, Option, Some, None, pos}
+use Rattle.std.specs.Prelude.{◌≡◌, ℕ, Bool, true, false, ◌||◌, List, [], ◌∷◌, map, Option, Some, None, pos}
 use Rattle.design_core.specs.declared.place.BitRef.{BitRef}
 use Rattle.design_core.specs.declared.operators.Binary.TheVariants as binary
 use Rattle.design_core.specs.Core.{bit, signal, Term, Stmt, constant, span, app1, app2, Left, nowhere, both, slice, skip, seq, write, choose}
@@ -13,7 +13,7 @@ use Rattle.design_core.specs.Parts.{item_of}
 use Rattle.design_core.specs.Covers.{Arm, first_arm}
 use Rattle.design_core.specs.Operators.{binary_value, one_bit, all_match}
 use Rattle.bits_core.specs.Places.{is_set, extended}
-use Rattle.design_core.specs.Cells.{Bitmap, Cell, In, IsOrdered}
+use Rattle.design_core.specs.Cells.{Bitmap, In, IsOrdered}
 use Rattle.design_core.specs.Items.{CoreItem, assign, comb, clocked, reset_by, cell_of, IsGood}
 use Rattle.design_core.specs.Rows.{Row, Kind, proved, refuted, «open», IsKind}
 use Rattle.design_core.specs.Setups.{held_in_window, held_in_run}

@@ -2,6 +2,7 @@
 #![tactic(auto)]
 
 ghost use Rattle.design_cases.specs.WorkedRows.{ThroughIsProved, GroundedIsRefuted, GatedByCondition, PipedByTwo, EnabledByCondition, KeptStaysOpen, ClearedAtLaunchOne, CarriedByCondition, ResetIsReleased, SwitchedByCondition, TreeIsRead};
+ghost use Rattle.design_cases.specs.TreeRows.{ExtendRows, CompareRows, FillRows, IndexRows, PartRows, CallRows, FreeRows, ResetRows};
 ghost use Rattle.design_cases.specs.OperatorRows.{UnaryRows, ArithmeticRows, BitwiseRows, LessRows, SignRows, EqualRows, ShiftRows, JoinRows, SelectRows, MatchRows, WriteRows};
 
 /// The operators come out as worked by hand.
@@ -31,11 +32,21 @@ pub fn rows_as_worked()
     ensures carried { CarriedByCondition }
     ensures reset { ResetIsReleased }
     ensures switched { SwitchedByCondition }
-{
-}
+{}
 
 /// A tree is read as the item that it stands for.
 pub fn tree_is_read()
     ensures { TreeIsRead }
-{
-}
+{}
+
+/// Trees of expressions and statements come out as worked by hand, and a register under reset reads as its reset value at once.
+pub fn trees_as_worked()
+    ensures extend { ExtendRows }
+    ensures compare { CompareRows }
+    ensures fill { FillRows }
+    ensures index { IndexRows }
+    ensures part { PartRows }
+    ensures call { CallRows }
+    ensures free { FreeRows }
+    ensures reset { ResetRows }
+{}

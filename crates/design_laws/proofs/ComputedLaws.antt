@@ -1,6 +1,6 @@
 -- A window or run is what its first state and its inputs make of it.
-use Rattle.std.proofs.Common.{◌≡◌, ℕ, zero, ◌≤◌, Bool, true, List, refl, sym, ◌∙◌, Option, Some}
-use Rattle.design_core.specs.Cells.{Bitmap, Cell, In, IsTrace, IsSlice}
+use Rattle.std.proofs.Common.{◌≡◌, ℕ, ◌≤◌, Bool, true, List, refl, sym, ◌∙◌, Option, Some}
+use Rattle.design_core.specs.Cells.{Bitmap, Cell, IsTrace, IsSlice}
 use Rattle.design_core.specs.Rows.{IsChecked}
 use Rattle.design_laws.proofs.OrderLaws.{settle_keeps, settle_holds}
 use Rattle.design_laws.proofs.TraceLaws.{states, assigned, next_steps, traces_agree}
@@ -10,9 +10,10 @@ module _ {B : Type 0} (E : List (Cell B)) (held : ℕ → B → Option Bool) (ch
   pub computed_trace : (last : ℕ) (start : Bitmap B) (i : ℕ → Bitmap B) → ((k : ℕ) → k ≤ last → (b : B) (v : Bool) → held k b ≡ Some v → i k b ≡ v)
       → IsTrace E held last (states E start i) (assigned E start i)
   computed_trace last start i holds = record {
-      settled = λ k l c m. settle_holds E (states E start i k) (i k) checked.ordered checked.lawful c m;
-      steps = λ k l c m. next_steps E (states E start i k) (assigned E start i k) checked.ordered c m;
-      holding = λ k l b v h. settle_keeps E (states E start i k) (i k) b (checked.free k b v h) ∙ holds k l b v h }
+    settled = λ k l c m. settle_holds E (states E start i k) (i k) checked.ordered checked.lawful c m;
+    steps = λ k l c m. next_steps E (states E start i k) (assigned E start i k) checked.ordered c m;
+    holding = λ k l b v h. settle_keeps E (states E start i k) (i k) b (checked.free k b v h) ∙ holds k l b v h;
+  }
 
   whole : IsSlice E E (λ b. true)
   whole = record { inside = λ c m. m; closed = λ c m b r d. m; reads_in = λ c m b h. refl; uses_in = λ c m b h. refl }

@@ -3,5 +3,14 @@ use Rattle.design_cases.proofs.rows_as_worked.Goals as goal
 
 pub returns : goal.returns
 returns c = record {
-    through = through_is_proved; grounded = grounded_is_refuted; gated = gated_by_condition; piped = piped_by_two; enabled = enabled_by_condition;
-    kept = kept_stays_open; cleared = cleared_at_launch_one; carried = carried_by_condition; reset = reset_is_released; switched = switched_by_condition }
+  through = through_is_proved;
+  grounded = grounded_is_refuted;
+  gated = gated_by_condition;
+  piped = piped_by_two;
+  enabled = enabled_by_condition;
+  kept = kept_stays_open;
+  cleared = cleared_at_launch_one;
+  carried = carried_by_condition;
+  reset = reset_is_released;
+  switched = switched_by_condition;
+}
