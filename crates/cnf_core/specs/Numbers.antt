@@ -1,6 +1,7 @@
 -- Numbers in texts: decimal digits, leading zeros allowed, and `-` before a number that is not 0.
-use Rattle.std.specs.Prelude.{ℕ, ℤ, pos, Bool, true, false, cond, eqb, ltb, List, [], ◌∷◌, ◌++◌, Option, Some, None, length}
-use Rattle.std.specs.Fmt.{decimal}
+use Rattle.std.specs.Prelude.{◌≡◌, ◌≤◌, ◌<◌, ◌+◌, ℕ, ℤ, pos, Bool, true, false, cond, eqb, ltb, List, [], ◌∷◌, ◌++◌, Option, Some, None, length}
+use Rattle.std.specs.Fmt.{decimal, signed_decimal}
+use Rattle.std.specs.Int.RustNames.{unsigned_abs}
 use Rattle.std.specs.Str.{all_ascii_digits}
 use Rattle.std.specs.Str.Parse.{digits_value}
 use mathlib.Core.Bool.{◌&&◌}
@@ -26,3 +27,13 @@ positive (Some n) = Some (pos n)
 abbrev pub integer_below : ℕ → List ℕ → Option ℤ
 integer_below bound [] = None
 integer_below bound (b ∷ bs) = cond (eqb b 45) (negative (number_below bound bs)) (positive (number_below bound (b ∷ bs)))
+
+-- numbers in a text, each with a blank behind it, and 0
+abbrev pub numbers_text : List ℤ → List ℕ
+numbers_text [] = 48 ∷ []
+numbers_text (z ∷ zs) = signed_decimal z ++ 32 ∷ numbers_text zs
+
+-- numbers that are not 0, of absolute values below a bound
+abbrev pub AllFit : ℕ → List ℤ → Type 0
+AllFit bound [] = Unit {0}
+AllFit bound (z ∷ zs) = (1 ≤ unsigned_abs z) × (unsigned_abs z < bound) × AllFit bound zs

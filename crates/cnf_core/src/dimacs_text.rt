@@ -1,5 +1,6 @@
 ghost use Rattle.std.specs.Prelude.{◌≡◌, ◌++◌, OnOk, OnErr};
-ghost use Rattle.cnf_core.specs.DimacsText.{clause_text, clauses_text, dimacs_text};
+ghost use Rattle.cnf_core.specs.DimacsText.{clause_text, clauses_text, dimacs_text, IsInText};
+ghost use Rattle.cnf_core.specs.Dimacs.{dimacs_of};
 
 use crate::formula::{Clause, Formula};
 use crate::lit::Lit;
@@ -37,11 +38,12 @@ fn push_formula(out: &mut Vec<u8>, formula: &Formula) -> Result<(), NoMemory>
     push_clauses(out, formula.clauses.as_slice())
 }
 
-/// Puts the DIMACS text of a formula at the end of `out`: the head, then a clause a line. Where memory is wanting, `out` stays as it
-/// was. Linear in the text.
+/// Puts the DIMACS text of a formula at the end of `out`: the head, then a clause a line. It is read back as the formula, where a text can hold
+/// it. Where memory is wanting, `out` stays as it was. Linear in the text.
 pub fn write_dimacs(formula: &Formula, out: &mut Vec<u8>) -> Result<(), NoMemory>
     ensures ok { OnOk result (out.new.items ≡ out.old.items ++ dimacs_text formula.now) }
     ensures err { OnErr result (out.new.items ≡ out.old.items) }
+    ensures read_back { IsInText formula.now → dimacs_of (dimacs_text formula.now) ≡ Ok formula.now }
 {
     let mut text = Vec::new(*out.allocator());
     push_formula(&mut text, formula)?;

@@ -4,12 +4,8 @@ use Rattle.std.specs.Int.RustNames.{unsigned_abs}
 use Rattle.std.specs.Fmt.{decimal, signed_decimal}
 use Rattle.cnf_core.specs.declared.formula.Step.{Step}
 use Rattle.cnf_core.specs.declared.formula.Step.TheVariants.{Add, Delete}
+use Rattle.cnf_core.specs.Numbers.{numbers_text, AllFit}
 use Rattle.lrat_checker.specs.Lrat.{all_positive}
-
--- the numbers, each with a blank behind it, and 0
-abbrev pub numbers_text : List ℤ → List ℕ
-numbers_text [] = 48 ∷ []
-numbers_text (z ∷ zs) = signed_decimal z ++ 32 ∷ numbers_text zs
 
 abbrev pub step_text : Step → List ℕ
 step_text (Add id lits hints) = decimal id ++ 32 ∷ numbers_text lits ++ 32 ∷ numbers_text hints ++ 10 ∷ []
@@ -18,11 +14,6 @@ step_text (Delete ids) = codes "1 d " ++ numbers_text ids ++ 10 ∷ []
 abbrev pub log_text : List Step → List ℕ
 log_text [] = []
 log_text (s ∷ ss) = step_text s ++ log_text ss
-
--- numbers that are not 0, of absolute values below a bound
-abbrev pub AllFit : ℕ → List ℤ → Type 0
-AllFit bound [] = Unit {0}
-AllFit bound (z ∷ zs) = (1 ≤ unsigned_abs z) × (unsigned_abs z < bound) × AllFit bound zs
 
 -- a step that a line can hold
 abbrev pub StepInText : Step → Type 0

@@ -1,5 +1,7 @@
 ghost use Rattle.std.specs.Prelude.{◌≡◌, ◌++◌, OnOk, OnErr};
-ghost use Rattle.lrat_checker.specs.LratText.{numbers_text, step_text, log_text};
+ghost use Rattle.cnf_core.specs.Numbers.{numbers_text};
+ghost use Rattle.lrat_checker.specs.LratText.{step_text, log_text, LogInText};
+ghost use Rattle.lrat_checker.specs.Lrat.{lrat_of};
 
 use bits_core::NoMemory;
 use cnf_core::{Lit, Log, Step, push_integer, push_number};
@@ -55,11 +57,13 @@ fn push_steps(out: &mut Vec<u8>, steps: &[Step]) -> Result<(), NoMemory>
     Ok(())
 }
 
-/// Puts the LRAT text of a log at the end of `out`, a step a line; a deletion has the id 1, which says nothing. Where memory is
+/// Puts the LRAT text of a log at the end of `out`, a step a line; a deletion has the id 1, which says nothing. It is read back as the log, where a text can
+/// hold it. Where memory is
 /// wanting, `out` stays as it was. Linear in the text.
 pub fn write_lrat(log: &Log, out: &mut Vec<u8>) -> Result<(), NoMemory>
     ensures ok { OnOk result (out.new.items ≡ out.old.items ++ log_text log.now) }
     ensures err { OnErr result (out.new.items ≡ out.old.items) }
+    ensures read_back { LogInText log.now → lrat_of (log_text log.now) ≡ Ok log.now }
 {
     let mut text = Vec::new(*out.allocator());
     push_steps(&mut text, log.as_slice())?;

@@ -1,5 +1,5 @@
 use Rattle.std.proofs.Common.{◌≡◌, ◌++◌, drop}
-use Rattle.lrat_checker.specs.LratText.{numbers_text}
+use Rattle.cnf_core.specs.Numbers.{numbers_text}
 use Rattle.lrat_checker.proofs.writing.push_literals.Given as goal
 
 abbrev pub invariant-loop-lit : goal.invariant-loop-lit
