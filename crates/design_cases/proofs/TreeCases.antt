@@ -13,7 +13,7 @@ use Rattle.design_core.specs.Operators.{unary_value, binary_value, lowest, one_b
 use Rattle.design_core.specs.Terms.{term, stmt, matching, chained, passed, select_of}
 use Rattle.design_core.proofs.TermLaws.{term_constant, term_signal, term_local, term_extend, term_binary, term_unary, term_select, term_select_at, term_concat, term_call, stmt_write, left_whole, matching_is}
 use Rattle.design_cases.specs.OperatorRows.{ones}
-use Rattle.design_cases.specs.TreeRows.{worth, literal, ExtendRows, CompareRows, FillRows, IndexRows, PartRows, turned, CallRows, free_item, FreeRows, ResetRows}
+use Rattle.design_cases.specs.TreeRows.{worth, literal, ExtendRows, CompareRows, FillRows, IndexRows, PartRows, some_bit, CallRows, free_item, FreeRows, ResetRows}
 
 abbrev four : ℕ → ℕ
 four s = 4
@@ -59,18 +59,24 @@ part_rows = (
   seen _ (select_of (pos 3) 2 (span 0 4 (pos 0) 4)) (term_select four _ (record { length = 4; signed = false; node = node.Signal 0 }) (pos 3) refl ∙ ap (select_of (pos 3) 2) (term_signal four (record { length = 4; signed = false; node = node.Signal 0 }) 0 refl)),
 )
 
-body_is : stmt four turned.body ≡ write (slice (local 0) 2 (pos 0) 2) (app1 (unary_value unary.Invert) (own 1)) true
-body_is = let inner : DExpr = record { length = 2; signed = false; node = node.Local 1 } in
-    let outer : DExpr = record { length = 2; signed = false; node = node.Unary unary.Invert inner } in
-    stmt_write four turned.body (lefts.Whole (base.Local 0) 2) outer true refl
-    ∙ ap₂ (λ l e. write l e true) (left_whole four (lefts.Whole (base.Local 0) 2) (base.Local 0) 2 refl)
-    (term_unary four outer unary.Invert inner refl ∙ ap (app1 (unary_value unary.Invert)) (term_local four inner 1 refl))
+body_is : stmt four some_bit.body ≡ write (slice (local 0) 1 (pos 0) 1) (app1 (unary_value unary.Or) (own 1)) true
+body_is =
+    let inner : DExpr = record { length = 2; signed = false; node = node.Local 1 } in
+    let outer : DExpr = record { length = 1; signed = false; node = node.Unary unary.Or inner } in
+    stmt_write four some_bit.body (lefts.Whole (base.Local 0) 1) outer true refl
+    ∙ ap₂ (λ l e. write l e true) (left_whole four (lefts.Whole (base.Local 0) 1) (base.Local 0) 1 refl)
+    (term_unary four outer unary.Or inner refl ∙ ap (app1 (unary_value unary.Or)) (term_local four inner 1 refl))
+
+called : (v : ℕ) → worth (record { length = 1; signed = false; node = node.Call some_bit (literal false 4 v ∷ []) })
+    ≡ value (call (passed (constant (bits_of 4 v) ∷ [])) (write (slice (local 0) 1 (pos 0) 1) (app1 (unary_value unary.Or) (own 1)) true) 1 (2 ∷ []) []) ones []
+called v = seen (record { length = 1; signed = false; node = node.Call some_bit (literal false 4 v ∷ []) })
+    (call (passed (constant (bits_of 4 v) ∷ [])) (write (slice (local 0) 1 (pos 0) 1) (app1 (unary_value unary.Or) (own 1)) true) 1 (2 ∷ []) [])
+    (term_call four (record { length = 1; signed = false; node = node.Call some_bit (literal false 4 v ∷ []) }) some_bit (literal false 4 v ∷ []) refl
+    ∙ ap₂ (λ x s. call (passed (x ∷ [])) s 1 (2 ∷ []) []) (literal_is false 4 v) body_is)
 
 pub call_rows : CallRows
 unfolding number signed_number bits_of extended selected shifted_left shifted_right
-call_rows = seen _ (call (passed (constant (bits_of 4 13) ∷ [])) (write (slice (local 0) 2 (pos 0) 2) (app1 (unary_value unary.Invert) (own 1)) true) 2 (2 ∷ []) [])
-    (term_call four _ turned (literal false 4 13 ∷ []) refl
-    ∙ ap₂ (λ x s. call (passed (x ∷ [])) s 2 (2 ∷ []) []) (literal_is false 4 13) body_is)
+call_rows = (called 4, called 2)
 
 free_is : (v : List Bool) → value (matching four free_item (constant v)) ones [] ≡ value (app2 (λ a b. one_bit (all_match a b (bits_of 3 2))) (constant v) (constant (bits_of 3 4))) ones []
 free_is v = ap (λ t. value t ones []) (matching_is four free_item (constant v) ∙ ap (app2 (λ a b. one_bit (all_match a b (bits_of 3 2))) (constant v)) (literal_is false 3 4))

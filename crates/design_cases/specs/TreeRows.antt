@@ -49,18 +49,19 @@ abbrev pub PartRows : Type 0
 PartRows = (worth (record { length = 6; signed = false; node = node.Concat (literal false 4 10 ∷ literal false 2 1 ∷ []) }) ≡ bits_of 6 41)
     × (worth (record { length = 2; signed = false; node = node.Select (record { length = 4; signed = false; node = node.Signal 0 }) (pos 3) }) ≡ bits_of 2 1)
 
--- a function of one input of 2 bits that answers the input turned; the argument has 4 bits and is cut
-abbrev pub turned : DFunction
-turned = record {
-  length = 2;
+-- a function of one input of 2 bits that tells whether some bit of it is 1; the argument 0100 is cut to 00
+abbrev pub some_bit : DFunction
+some_bit = record {
+  length = 1;
   signed = false;
   inputs = record { length = 2; signed = false } ∷ [];
   locals = [];
-  body = stmts.Write (lefts.Whole (base.Local 0) 2) (record { length = 2; signed = false; node = node.Unary unary.Invert (record { length = 2; signed = false; node = node.Local 1 }) }) true;
+  body = stmts.Write (lefts.Whole (base.Local 0) 1) (record { length = 1; signed = false; node = node.Unary unary.Or (record { length = 2; signed = false; node = node.Local 1 }) }) true;
 }
 
 abbrev pub CallRows : Type 0
-CallRows = worth (record { length = 2; signed = false; node = node.Call turned (literal false 4 13 ∷ []) }) ≡ bits_of 2 2
+CallRows = (worth (record { length = 1; signed = false; node = node.Call some_bit (literal false 4 4 ∷ []) }) ≡ bits_of 1 0)
+    × (worth (record { length = 1; signed = false; node = node.Call some_bit (literal false 4 2 ∷ []) }) ≡ bits_of 1 1)
 
 -- the item 3'b1?0 of a casez matches 110 and 100, and not 101; a free bit is 1 in the second list
 abbrev pub free_item : DMatch

@@ -6,3 +6,4 @@ pub mod CoverLaws
 pub mod CompletedLaws
 pub mod EnvLaws
 pub mod TermLaws
+pub mod LeastNeeds

@@ -1,11 +1,11 @@
--- A body's bits in a closed set depend on the bits of that set alone.
-use Rattle.std.proofs.Common.{◌≡◌, ℕ, Bool, true, false, not, List, [], ◌∷◌, inl, inr, refl, sym, ◌∙◌, ap, subst, if◌then◌else◌, ◌&&◌, ◌||◌, Option, Some, None}
+-- What bodies keep, and what of a body is surely written.
+use Rattle.std.proofs.Common.{◌≡◌, ℕ, Bool, true, false, not, List, [], ◌∷◌, inl, inr, refl, ◌∙◌, ap, if◌then◌else◌, ◌&&◌, ◌||◌, Option, Some, None}
 use Rattle.bits_core.specs.Places.{is_set}
 use Rattle.design_core.specs.declared.place.BitRef.{BitRef}
-use Rattle.design_core.specs.Core.{Assignment, set_local, spots, signal, local, Left, nowhere, both, slice, slice_at, Stmt, skip, seq, write, choose, Place, lost, in_signal, in_local, St, put, first_bit, rest_bits, puts, joined, placed_at, value, places, exec, reads, left_reads, stmt_reads, left_drives, surely_names, known, Within, ReadsKnown}
-use Rattle.design_core.specs.Needs.{names_local, writes_local, targets, known_later, Misses, IsClosedFor}
+use Rattle.design_core.specs.Core.{Assignment, set_local, spots, signal, local, Left, nowhere, both, slice, slice_at, Stmt, skip, seq, write, choose, Place, lost, in_signal, in_local, St, put, first_bit, rest_bits, puts, joined, placed_at, value, places, exec, left_drives, surely_names, known, Within}
+use Rattle.design_core.specs.Needs.{names_local, writes_local, targets, known_later}
 use Rattle.design_core.proofs.BoolLaws.{or_cases, or_left, or_right, or_false, false_or, both_true, true_both, not_both, either}
-use Rattle.design_core.proofs.FrameLaws.{Alike, is_place, placed, set_same, or_nothing, regroup, puts_keep, placed_drives, named_placed, value_frame, places_frame}
+use Rattle.design_core.proofs.FrameLaws.{Alike, is_place, placed, set_same, or_nothing, regroup, puts_keep, placed_drives}
 
 weaker : (A B C D : BitRef → Bool) (t u : St) → Within B A → Within D C → Alike A C t u → Alike B D t u
 weaker A B C D t u h k w = record { now_same = λ b q. w.now_same b (h b q); later_same = λ b q. w.later_same b (k b q); locals_same = w.locals_same }
@@ -24,7 +24,7 @@ nothing_or true k h = refl
 nothing_or false true h = h
 nothing_or false false h = h
 
-puts_grow : (blocking : Bool) (A C : BitRef → Bool) (ps : List Place) (vs : List Bool) (t u : St) → Alike A C t u
+pub puts_grow : (blocking : Bool) (A C : BitRef → Bool) (ps : List Place) (vs : List Bool) (t u : St) → Alike A C t u
     → Alike (λ b. A b || (blocking && placed b ps)) (λ b. C b || (not blocking && placed b ps)) (puts blocking ps vs t) (puts blocking ps vs u)
 puts_grow blocking A C [] vs t u w = weaker A (λ b. A b || (blocking && false)) C (λ b. C b || (not blocking && false)) t u
     (λ b. nothing_or (A b) blocking) (λ b. nothing_or (C b) (not blocking)) w
@@ -93,7 +93,7 @@ put_other_now lost v t = refl
 put_other_now (in_signal b) v t = refl
 put_other_now (in_local j k) v t = refl
 
-puts_other_now : (ps : List Place) (vs : List Bool) (t : St) → (puts false ps vs t).now ≡ t.now
+pub puts_other_now : (ps : List Place) (vs : List Bool) (t : St) → (puts false ps vs t).now ≡ t.now
 puts_other_now [] vs t = refl
 puts_other_now (p ∷ ps) vs t = put_other_now p (first_bit vs) (puts false ps (rest_bits vs) t) ∙ puts_other_now ps (rest_bits vs) t
 
@@ -126,7 +126,7 @@ later_kept (choose c x y) t b h = let f = or_false (targets false x b) (targets 
     elim (is_set (value c t.now t.locals)) as (λ k. (if k then exec x t else exec y t).later b ≡ t.later b) [ true ↦ later_kept x t b f.0 | false ↦ later_kept y t b f.1 ]
 
 -- what is known of written bits is written
-sure_drives : (l : Left) (b : BitRef) → surely_names l b ≡ true → left_drives l b ≡ true
+pub sure_drives : (l : Left) (b : BitRef) → surely_names l b ≡ true → left_drives l b ≡ true
 sure_drives nowhere b h = h
 sure_drives (both x y) b h = elim (or_cases (surely_names x b) (surely_names y b) h) [
   | inl r ↦ or_left (left_drives x b) (left_drives y b) (sure_drives x b r)
@@ -136,7 +136,7 @@ sure_drives (slice (signal s) m low n) b h = h
 sure_drives (slice (local s) m low n) b h = h
 sure_drives (slice_at base m f e n) b h = cc
 
-known_written : (s : Stmt) (A : BitRef → Bool) (b : BitRef) → known s A b ≡ true → targets true s b ≡ false → A b ≡ true
+pub known_written : (s : Stmt) (A : BitRef → Bool) (b : BitRef) → known s A b ≡ true → targets true s b ≡ false → A b ≡ true
 known_written skip A b h k = h
 known_written (seq x y) A b h k = let f = or_false (targets true x b) (targets true y b) k in
     known_written x A b (known_written y (known x A) b h f.1) f.0
@@ -145,7 +145,7 @@ known_written (write l e false) A b h k = or_nothing (A b) h
 known_written (choose c x y) A b h k = let f = or_false (targets true x b) (targets true y b) k in
     known_written x A b (both_true (known x A b) (known y A b) h).0 f.0
 
-later_written : (s : Stmt) (C : BitRef → Bool) (b : BitRef) → known_later s C b ≡ true → targets false s b ≡ false → C b ≡ true
+pub later_written : (s : Stmt) (C : BitRef → Bool) (b : BitRef) → known_later s C b ≡ true → targets false s b ≡ false → C b ≡ true
 later_written skip C b h k = h
 later_written (seq x y) C b h k = let f = or_false (targets false x b) (targets false y b) k in
     later_written x C b (later_written y (known_later x C) b h f.1) f.0
@@ -154,89 +154,8 @@ later_written (write l e true) C b h k = or_nothing (C b) h
 later_written (choose c x y) C b h k = let f = or_false (targets false x b) (targets false y b) k in
     later_written x C b (both_true (known_later x C b) (known_later y C b) h).0 f.0
 
--- a statement that misses the sets leaves states alike
-missed_alike : (s : Stmt) (A K C T : BitRef → Bool) (t u : St) → Misses s K T → Alike (λ b. A b && K b) (λ b. C b && T b) t u
-    → Alike (λ b. known s A b && K b) (λ b. known_later s C b && T b) (exec s t) (exec s u)
-missed_alike s A K C T t u m w = record {
-  now_same = λ b q. (let p = both_true (known s A b) (K b) q in
-      let f : targets true s b ≡ false = elim (either (targets true s b)) [ inl r ↦ not_both (K b) p.1 (m.now_missed b r) | inr r ↦ r ] in
-      now_kept s t b f ∙ w.now_same b (true_both (A b) (K b) (known_written s A b p.0 f) p.1) ∙ sym (now_kept s u b f));
-  later_same = λ b q. (let p = both_true (known_later s C b) (T b) q in
-      let f : targets false s b ≡ false = elim (either (targets false s b)) [ inl r ↦ not_both (T b) p.1 (m.later_missed b r) | inr r ↦ r ] in
-      later_kept s t b f ∙ w.later_same b (true_both (C b) (T b) (later_written s C b p.0 f) p.1) ∙ sym (later_kept s u b f));
-  locals_same = locals_kept s t m.no_local ∙ w.locals_same ∙ sym (locals_kept s u m.no_local);
-}
-
-grown : (a k blk s p : Bool) → (s ≡ true → p ≡ true) → ((a || (blk && s)) && k) ≡ true → ((a && k) || (blk && p)) ≡ true
-grown true true blk s p h q = refl
-grown true false blk s p h q = absurd (elim (or_cases false false q) [ inl r ↦ cc | inr r ↦ cc ])
-grown false k true s p h q = h (both_true s k q).0
-grown false k false s p h q = cc
-
-choose_alike2 : (p q : Bool) (A B K C D T : BitRef → Bool) (t u t' u' : St) → p ≡ q → Within K A → Within K B → Within T C → Within T D
-    → Alike A C t u → Alike B D t' u' → Alike K T (if p then t else t') (if q then u else u')
-choose_alike2 true true A B K C D T t u t' u' e h k i j w v = weaker A K C T t u h i w
-choose_alike2 false false A B K C D T t u t' u' e h k i j w v = weaker B K D T t' u' k j v
-choose_alike2 true false A B K C D T t u t' u' e h k i j w v = cc
-choose_alike2 false true A B K C D T t u t' u' e h k i j w v = cc
-
-first_and : (a b k : Bool) → ((a && b) && k) ≡ true → (a && k) ≡ true
-first_and a b k q = let p = both_true (a && b) k q in true_both a k (both_true a b p.0).0 p.1
-
-second_and : (a b k : Bool) → ((a && b) && k) ≡ true → (b && k) ≡ true
-second_and a b k q = let p = both_true (a && b) k q in true_both b k (both_true a b p.0).1 p.1
-
--- a body that reads known bits alone, in sets closed for it
-pub slice_frame : (s : Stmt) (A K C T : BitRef → Bool) (t u : St) → ReadsKnown s A → IsClosedFor s K T → Alike (λ b. A b && K b) (λ b. C b && T b) t u
-    → Alike (λ b. known s A b && K b) (λ b. known_later s C b && T b) (exec s t) (exec s u)
-slice_frame skip A K C T t u fine closed w = w
-slice_frame (seq x y) A K C T t u fine closed w =
-    slice_frame y (known x A) K (known_later x C) T (exec x t) (exec x u) fine.1 closed.1 (slice_frame x A K C T t u fine.0 closed.0 w)
-slice_frame (write l e blocking) A K C T t u fine (inl m) w = missed_alike (write l e blocking) A K C T t u m w
-slice_frame (write l e blocking) A K C T t u fine (inr hit) w =
-    let v : value e t.now t.locals ≡ value e u.now u.locals =
-    value_frame e t.now u.now t.locals (λ b r. w.now_same b (true_both (A b) (K b) (fine.0 b r) (hit.0 b r))) ∙ ap (λ f. value e u.now f) w.locals_same in
-    let p : places l t.now t.locals ≡ places l u.now u.locals =
-    places_frame l t.now u.now t.locals (λ b r. w.now_same b (true_both (A b) (K b) (fine.1 b r) (hit.1 b r))) ∙ ap (λ f. places l u.now f) w.locals_same in
-    let ps = places l t.now t.locals in
-    let vs = value e t.now t.locals in
-    let P : List Place → Type 0 = λ qs. Alike (λ b. known (write l e blocking) A b && K b) (λ b. known_later (write l e blocking) C b && T b)
-    (puts blocking ps vs t) (puts blocking qs (value e u.now u.locals) u) in
-    let Q : List Bool → Type 0 = λ ws. Alike (λ b. known (write l e blocking) A b && K b) (λ b. known_later (write l e blocking) C b && T b)
-    (puts blocking ps vs t) (puts blocking ps ws u) in
-    subst P p (subst Q v
-    (weaker (λ b. (A b && K b) || (blocking && placed b ps)) (λ b. known (write l e blocking) A b && K b)
-    (λ b. (C b && T b) || (not blocking && placed b ps)) (λ b. known_later (write l e blocking) C b && T b)
-    (puts blocking ps vs t) (puts blocking ps vs u)
-    (λ b q. grown (A b) (K b) blocking (surely_names l b) (placed b ps) (named_placed l t.now t.locals b) q)
-    (λ b q. grown (C b) (T b) (not blocking) (surely_names l b) (placed b ps) (named_placed l t.now t.locals b) q)
-    (puts_grow blocking (λ b. A b && K b) (λ b. C b && T b) ps vs t u w)))
-slice_frame (choose c x y) A K C T t u fine (inl m) w = missed_alike (choose c x y) A K C T t u m w
-slice_frame (choose c x y) A K C T t u fine (inr hit) w =
-    let v : value c t.now t.locals ≡ value c u.now u.locals =
-    value_frame c t.now u.now t.locals (λ b r. w.now_same b (true_both (A b) (K b) (fine.0 b r) (hit.0 b r))) ∙ ap (λ f. value c u.now f) w.locals_same in
-    choose_alike2 (is_set (value c t.now t.locals)) (is_set (value c u.now u.locals))
-    (λ b. known x A b && K b) (λ b. known y A b && K b) (λ b. known (choose c x y) A b && K b)
-    (λ b. known_later x C b && T b) (λ b. known_later y C b && T b) (λ b. known_later (choose c x y) C b && T b)
-    (exec x t) (exec x u) (exec y t) (exec y u) (ap is_set v)
-    (λ b. first_and (known x A b) (known y A b) (K b)) (λ b. second_and (known x A b) (known y A b) (K b))
-    (λ b. first_and (known_later x C b) (known_later y C b) (T b)) (λ b. second_and (known_later x C b) (known_later y C b) (T b))
-    (slice_frame x A K C T t u fine.1 hit.1 w) (slice_frame y A K C T t u fine.2 hit.2 w)
-
 pub later_more : (s : Stmt) (C : BitRef → Bool) → Within C (known_later s C)
 later_more skip C b h = h
 later_more (seq x y) C b h = later_more y (known_later x C) b (later_more x C b h)
 later_more (write l e blocking) C b h = or_left (C b) (not blocking && surely_names l b) h
 later_more (choose c x y) C b h = true_both (known_later x C b) (known_later y C b) (later_more x C b h) (later_more y C b h)
-
--- the set of all that a body reads is closed for it
-pub reads_closed : (s : Stmt) (K T : BitRef → Bool) → Within (stmt_reads s) K → IsClosedFor s K T
-reads_closed skip K T h = tt
-reads_closed (seq x y) K T h =
-    (reads_closed x K T (λ b r. h b (or_left (stmt_reads x b) (stmt_reads y b) r)), reads_closed y K T (λ b r. h b (or_right (stmt_reads x b) (stmt_reads y b) r)))
-reads_closed (write l e blocking) K T h = inr (λ b r. h b (or_left (reads e b) (left_reads l b) r), λ b r. h b (or_right (reads e b) (left_reads l b) r))
-reads_closed (choose c x y) K T h = inr (
-  λ b r. h b (or_left (reads c b) (stmt_reads x b || stmt_reads y b) r),
-  reads_closed x K T (λ b r. h b (or_right (reads c b) (stmt_reads x b || stmt_reads y b) (or_left (stmt_reads x b) (stmt_reads y b) r))),
-  reads_closed y K T (λ b r. h b (or_right (reads c b) (stmt_reads x b || stmt_reads y b) (or_right (stmt_reads x b) (stmt_reads y b) r))),
-)

@@ -1,7 +1,7 @@
--- What single bits of a body depend on: sets of bits that are closed for the body.
-use Rattle.std.specs.Prelude.{◌≡◌, Bool, true, false, not, ◌&&◌, ◌||◌, ◌⊎◌}
+-- What single bits of a body need.
+use Rattle.std.specs.Prelude.{◌≡◌, Bool, true, false, not, ◌&&◌, ◌||◌}
 use Rattle.design_core.specs.declared.place.BitRef.{BitRef}
-use Rattle.design_core.specs.Core.{signal, local, Left, nowhere, both, slice, slice_at, Stmt, skip, seq, write, choose, reads, left_reads, left_drives, surely_names, Within}
+use Rattle.design_core.specs.Core.{signal, local, Left, nowhere, both, slice, slice_at, Stmt, skip, seq, write, choose, reads, left_reads, left_drives, drives, surely_names}
 
 -- the left side names a local
 abbrev pub names_local : Left → Bool
@@ -35,15 +35,14 @@ known_later (seq x y) C b = known_later y (known_later x C) b
 known_later (write l e blocking) C b = C b || (not blocking && surely_names l b)
 known_later (choose c x y) C b = known_later x C b && known_later y C b
 
--- a statement writes none of K now, none of T later, and no local
-pub record Misses (s : Stmt) (K T : BitRef → Bool) : Type 0 where
-  pub now_missed : (b : BitRef) → targets true s b ≡ true → K b ≡ false
-  pub later_missed : (b : BitRef) → targets false s b ≡ true → T b ≡ false
-  pub no_local : writes_local s ≡ false
+-- bit a is read by an assignment that may write b, in its right side or an index on its left, or by a test round such an assignment
+abbrev pub needed_for : Stmt → BitRef → BitRef → Bool
+needed_for skip b a = false
+needed_for (seq x y) b a = needed_for x b a || needed_for y b a
+needed_for (write l e blocking) b a = left_drives l b && (reads e a || left_reads l a)
+needed_for (choose c x y) b a = ((drives x b || drives y b) && reads c a) || (needed_for x b a || needed_for y b a)
 
--- each assignment that may write K now or T later reads K alone, as do the tests round it
-abbrev pub IsClosedFor : Stmt → (BitRef → Bool) → (BitRef → Bool) → Type 0
-IsClosedFor skip K T = Unit {0}
-IsClosedFor (seq x y) K T = IsClosedFor x K T × IsClosedFor y K T
-IsClosedFor (write l e blocking) K T = Misses (write l e blocking) K T ⊎ (Within (reads e) K × Within (left_reads l) K)
-IsClosedFor (choose c x y) K T = Misses (choose c x y) K T ⊎ (Within (reads c) K × IsClosedFor x K T × IsClosedFor y K T)
+-- what a bit needs of a combinational body: what is read for it, and what is read for the bits of the same body among these; this is the least such set
+pub data BodyNeeds (body : Stmt) (b : BitRef) : BitRef → Type 0 where
+  at_once : {a : BitRef} → needed_for body b a ≡ true → BodyNeeds body b a
+  through : {c a : BitRef} → BodyNeeds body b c → drives body c ≡ true → needed_for body c a ≡ true → BodyNeeds body b a

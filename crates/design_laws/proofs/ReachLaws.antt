@@ -19,11 +19,11 @@ module _ {B : Type 0} where
   trace_to s σ E held m k e w = let P : ℕ → Type 0 = λ j. IsTrace E held j s σ in subst P (sym e) w
 
   -- why a bit of Q that c drives is the same under σ and τ
-  pub record Because (Q : B → Type 0) (σ τ : Bitmap B) (c : Cell B) (b : B) : Type 0 where
-    pub deps : B → Bool
-    pub in_reads : (a : B) → deps a ≡ true → c.reads a ≡ true
-    pub in_set : (a : B) → deps a ≡ true → Q a
-    pub gives : ((a : B) → deps a ≡ true → σ a ≡ τ a) → σ b ≡ τ b
+  pub record Because (Q : B → Type 0) (σ τ : Bitmap B) (c : Cell B) (b : B) : Type 1 where
+    pub deps : B → Type 0
+    pub in_reads : (a : B) → deps a → c.reads a ≡ true
+    pub in_set : (a : B) → deps a → Q a
+    pub gives : ((a : B) → deps a → σ a ≡ τ a) → σ b ≡ τ b
 
   agree_there : (Q : B → Type 0) (σ τ : Bitmap B) (c : Cell B) (cs : List (Cell B)) → IsFirst c cs
       → ((b : B) → Q b → (c.drives b || driven cs b) ≡ false → σ b ≡ τ b)
@@ -44,7 +44,7 @@ module _ {B : Type 0} where
       ])
       b r
 
-  module _ (E : List (Cell B)) (needs : Cell B → B → B → Bool) (Q : ℕ → B → Type 0) (o : IsOrdered E)
+  module _ (E : List (Cell B)) (needs : Cell B → B → B → Type 0) (Q : ℕ → B → Type 0) (o : IsOrdered E)
       (laws : (c : Cell B) → In c E → IsLawful c) (has : (c : Cell B) → In c E → HasNeeds c (needs c)) (reach : IsFreeReach E needs Q)
       (last : ℕ) (n : ℕ) (held held' : ℕ → B → Option Bool) (s σ t τ : ℕ → Bitmap B)
       (w : IsTrace E held last s σ) (v : IsTrace E held' (n + last) t τ)
@@ -54,7 +54,7 @@ module _ {B : Type 0} where
         → (c : Cell B) → In c E → (b : B) → Q k b → c.drives b ≡ true → Because (Q k) (σ k) (τ (n + k)) c b
     because k l stored c m b q d = elim (either c.clocked) [
       | inl yes' ↦ record {
-        deps = c.reads;
+        deps = λ a. c.reads a ≡ true;
         in_reads = λ a r. r;
         in_set = λ a r. reach.resets k c m yes' b a d q r;
         gives = λ same. (w.settled k l c m).gives b d
@@ -105,7 +105,7 @@ module _ {B : Type 0} where
   abbrev launched : ℕ → (ℕ → B → Option Bool) → (ℕ → Bitmap B) → ℕ → Bitmap B
   launched n held σ j b = if nat_le n j then σ (j - n) b else held_or (held j b)
 
-  pub free_launch : (E : List (Cell B)) (needs : Cell B → B → B → Bool) (Q : ℕ → B → Type 0) (held held' : ℕ → B → Option Bool) (p : Bitmap B) (n : ℕ) (row : Row B)
+  pub free_launch : (E : List (Cell B)) (needs : Cell B → B → B → Type 0) (Q : ℕ → B → Type 0) (held held' : ℕ → B → Option Bool) (p : Bitmap B) (n : ℕ) (row : Row B)
       → IsChecked E held' → ((c : Cell B) → In c E → HasNeeds c (needs c)) → IsFreeReach E needs Q → IsReached Q row
       → ((k : ℕ) (b : B) → held' (n + k) b ≡ held k b)
       → CanBreak E held None row 0 → CanBreak E held' (Some p) row n
@@ -141,7 +141,7 @@ module _ {B : Type 0} where
       }
 
   -- the reach of a row is such a set, where the row is launch-free
-  pub least_reach : (E : List (Cell B)) (needs : Cell B → B → B → Bool) (row : Row B) → IsLaunchFree E needs row → IsFreeReach E needs (Reach E needs row)
+  pub least_reach : (E : List (Cell B)) (needs : Cell B → B → B → Type 0) (row : Row B) → IsLaunchFree E needs row → IsFreeReach E needs (Reach E needs row)
   least_reach E needs row free = record {
     wires = λ k c m y b a d q n. wire c m y d q a n;
     resets = λ k c m y b a d q n. reset c m y d q a n;
@@ -149,11 +149,11 @@ module _ {B : Type 0} where
     launch_free = free;
   }
 
-  pub row_reached : (E : List (Cell B)) (needs : Cell B → B → B → Bool) (row : Row B) → IsReached (Reach E needs row) row
+  pub row_reached : (E : List (Cell B)) (needs : Cell B → B → B → Type 0) (row : Row B) → IsReached (Reach E needs row) row
   row_reached E needs row = record { sources_in = source; dests_in = dest; conditions_in = condition }
 
   -- and it is the least: it stands in each such set that has the bits of the row
-  pub reach_inside : (E : List (Cell B)) (needs : Cell B → B → B → Bool) (row : Row B) (Q : ℕ → B → Type 0) → IsFreeReach E needs Q → IsReached Q row
+  pub reach_inside : (E : List (Cell B)) (needs : Cell B → B → B → Type 0) (row : Row B) (Q : ℕ → B → Type 0) → IsFreeReach E needs Q → IsReached Q row
       → {k : ℕ} {b : B} → Reach E needs row k b → Q k b
   reach_inside E needs row Q w r (source p m) = r.sources_in p m
   reach_inside E needs row Q w r (dest p m) = r.dests_in p m
@@ -163,5 +163,5 @@ module _ {B : Type 0} where
   reach_inside E needs row Q w r (before {k} {b} c m y d q a n) = w.befores k c m y b a d (reach_inside E needs row Q w r q) n
 
   -- so a row is launch-free exactly where there is such a set
-  pub free_by_set : (E : List (Cell B)) (needs : Cell B → B → B → Bool) (row : Row B) (Q : ℕ → B → Type 0) → IsFreeReach E needs Q → IsReached Q row → IsLaunchFree E needs row
+  pub free_by_set : (E : List (Cell B)) (needs : Cell B → B → B → Type 0) (row : Row B) (Q : ℕ → B → Type 0) → IsFreeReach E needs Q → IsReached Q row → IsLaunchFree E needs row
   free_by_set E needs row Q w r c m y b d q = w.launch_free c m y b d (reach_inside E needs row Q w r q)

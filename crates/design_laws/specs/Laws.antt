@@ -9,7 +9,7 @@ use Rattle.design_core.specs.Rows.{Row, row_bit, IsAmong, CanBreak, IsValid, IsC
 use Rattle.design_core.specs.Items.{CoreItem, cell_of, item_reads, IsGood}
 use Rattle.design_core.specs.Plain.{IsLeft, stored_next}
 use Rattle.design_core.specs.Setups.{held_in_window, held_in_run}
-use Rattle.design_core.specs.Reach.{HasNeeds, IsNeedsOfItem, IsFreeReach, IsReached, IsLaunchFree}
+use Rattle.design_core.specs.Reach.{HasNeeds, IsFreeReach, IsReached, IsLaunchFree, item_needs, IsProcess, Process, process_cells, needs_in, AreProcesses}
 use Rattle.design_core.specs.Leaves.{Leaf, IsLeafOf, IsFirstBreak}
 use Rattle.design_core.specs.Names.{named_leaf, Seen}
 
@@ -131,18 +131,17 @@ HeldAreInputs = (E : List (Cell BitRef)) (pins : List (BitRef × Bool)) (reset :
     → (k : ℕ) (b : BitRef) (v : Bool)
     → (held_in_window pins reset k b ≡ Some v → driven E b ≡ false) × (held_in_run pins reset first k b ≡ Some v → driven E b ≡ false)
 
--- items have the needs that are theirs
+-- what a bit needs of its item decides it
 abbrev pub NeedsDecide : Type 0
-NeedsDecide = (x : CoreItem) (needs : BitRef → BitRef → Bool) → IsGood x → IsNeedsOfItem x needs → HasNeeds (cell_of x) needs
+NeedsDecide = (x : CoreItem) (full branch_full : Stmt) → IsGood x → IsProcess x full branch_full → HasNeeds (cell_of x) (item_needs x full branch_full)
 
 -- a launch-free row that some window breaks is broken by a run at the first launch
 abbrev pub FreeLaunch : Type 0
-FreeLaunch = (E : List (Cell BitRef)) (needs : Cell BitRef → BitRef → BitRef → Bool) (pins : List (BitRef × Bool)) (reset : Option (BitRef × Bool))
-    (power_up : Bitmap BitRef) (first : ℕ) (row : Row BitRef)
-    → IsChecked E (held_in_run pins reset first) → ((c : Cell BitRef) → In c E → HasNeeds c (needs c)) → IsLaunchFree E needs row
-    → CanBreak E (held_in_window pins reset) None row 0 → CanBreak E (held_in_run pins reset first) (Some power_up) row first
+FreeLaunch = (ps : List Process) (pins : List (BitRef × Bool)) (reset : Option (BitRef × Bool)) (power_up : Bitmap BitRef) (first : ℕ) (row : Row BitRef)
+    → IsChecked (process_cells ps) (held_in_run pins reset first) → AreProcesses ps → IsLaunchFree (process_cells ps) (needs_in ps) row
+    → CanBreak (process_cells ps) (held_in_window pins reset) None row 0 → CanBreak (process_cells ps) (held_in_run pins reset first) (Some power_up) row first
 
 -- a row is launch-free where some set of pairs of a cycle and a bit has the row's bits and what its members need, and no register at cycle 0
 abbrev pub FreeBySet : Type 0
-FreeBySet = (E : List (Cell BitRef)) (needs : Cell BitRef → BitRef → BitRef → Bool) (row : Row BitRef) (Q : ℕ → BitRef → Bool)
-    → IsFreeReach E needs (λ k b. Q k b ≡ true) → IsReached (λ k b. Q k b ≡ true) row → IsLaunchFree E needs row
+FreeBySet = (ps : List Process) (row : Row BitRef) (Q : ℕ → BitRef → Bool)
+    → IsFreeReach (process_cells ps) (needs_in ps) (λ k b. Q k b ≡ true) → IsReached (λ k b. Q k b ≡ true) row → IsLaunchFree (process_cells ps) (needs_in ps) row
