@@ -3,6 +3,8 @@ ghost use Rattle.design_core.specs.Wellformed.{is_design};
 
 use crate::items::{ItemList, PowerUpList};
 use crate::signals::{DScopes, SignalList};
+use bits_core::{Duplicate, NoMemory};
+use std::alloc::Global;
 
 /// A design: its scopes, signals and items, and the power-up value of each register bit in the order of bits.
 ///
@@ -16,4 +18,19 @@ pub struct Design {
     pub items: ItemList,
     pub powerup: PowerUpList,
     pub ghost kept: { is_design scopes signals items powerup ≡ true },
+}
+
+impl Duplicate for Design {
+    fn copy(&self, alloc: Global) -> Result<Design, NoMemory> {
+        let scopes = self.scopes.copy(alloc)?;
+        let signals = self.signals.copy(alloc)?;
+        let items = self.items.copy(alloc)?;
+        let powerup = self.powerup.copy(alloc)?;
+        Ok(Design {
+            scopes,
+            signals,
+            items,
+            powerup,
+        })
+    }
 }

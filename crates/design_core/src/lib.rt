@@ -1,7 +1,9 @@
 //! A design: signals by number, items with their expressions and statements, and power-up values; and what it means, in specs/.
 #![tactic(auto)]
 
+mod copies;
 mod design;
+mod duplicates;
 mod items;
 mod operators;
 mod place;
