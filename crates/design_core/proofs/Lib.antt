@@ -7,3 +7,4 @@ pub mod CompletedLaws
 pub mod EnvLaws
 pub mod TermLaws
 pub mod LeastNeeds
+pub mod FormedLaws
