@@ -15,7 +15,7 @@ use Rattle.cnf_core.specs.Lit.{variable_of, is_positive, literal_of}
 use Rattle.cnf_core.specs.Model.{lit_true, clause_true, IsModel}
 use Rattle.cnf_core.specs.Values.{Values, denies, grants, is_false, is_true, joined, meet, standing_of}
 use Rattle.cnf_core.specs.Closed.{is_quiet, IsClosed, AreDecided}
-use Rattle.cnf_core.specs.Gates.{gate_clauses, gate_value, IsInput, InputsBelow, gates_clauses, AllInputsBelow, with_value, extended, IsGateFormula}
+use Rattle.cnf_core.specs.Gates.{gate_clauses, gate_value, IsInput, InputsBelow, gates_clauses, AllInputsBelow, with_value, extended, IsGateFormula, ExtendsOnce}
 
 pub literal_variable : (x : ℕ) (p : Bool) → variable_of (literal_of x p) ≡ x
 literal_variable x true = refl
@@ -112,3 +112,177 @@ gates_given a n (g ∷ gs) i h given x p q e =
 pub gate_formula_decided : (cs : List (List Lit)) (variables leaves : ℕ) → IsGateFormula cs variables leaves → AreDecided cs variables leaves
 gate_formula_decided cs variables leaves f a closed given x p q e =
     gates_given a leaves f.gates f.inputs (closed_parts a (gates_clauses leaves f.gates) ((literal_of f.goal true ∷ []) ∷ []) (subst (IsClosed a) f.clauses closed)).0 given x p (let k = f.count in omega arith) e
+
+beq_is : (p q : Bool) → beq p q ≡ true → p ≡ q
+beq_is true true h = refl
+beq_is true false h = absurd (false≢true h)
+beq_is false true h = absurd (false≢true h)
+beq_is false false h = refl
+
+-- the clauses of a gate say that its variable has the gate's value
+or_end : (b : Bool) → (b || false) ≡ b
+or_end true = refl
+or_end false = refl
+
+clause_one : (u : ℕ → Bool) (x : ℕ) (p : Bool) → 1 ≤ x → clause_true u (literal_of x p ∷ []) ≡ beq (u x) p
+clause_one u x p h = or_end (lit_true u (literal_of x p)) ∙ literal_true u x p h
+
+clause_two : (u : ℕ → Bool) (x y : ℕ) (p q : Bool) → 1 ≤ x → 1 ≤ y → clause_true u (literal_of x p ∷ literal_of y q ∷ []) ≡ (beq (u x) p || beq (u y) q)
+clause_two u x y p q h k = ap₂ (λ (a b : Bool). a || b) (literal_true u x p h) (clause_one u y q k)
+
+clause_three : (u : ℕ → Bool) (x y z : ℕ) (p q r : Bool) → 1 ≤ x → 1 ≤ y → 1 ≤ z → clause_true u (literal_of x p ∷ literal_of y q ∷ literal_of z r ∷ []) ≡ (beq (u x) p || (beq (u y) q || beq (u z) r))
+clause_three u x y z p q r h k l = ap₂ (λ (a b : Bool). a || b) (literal_true u x p h) (clause_two u y z q r k l)
+
+and_true : (x y : Bool) → ((beq (x && y) false || beq x true) ≡ true) × ((beq (x && y) false || beq y true) ≡ true) × ((beq (x && y) true || (beq x false || beq y false)) ≡ true)
+and_true true true = (refl, refl, refl)
+and_true true false = (refl, refl, refl)
+and_true false true = (refl, refl, refl)
+and_true false false = (refl, refl, refl)
+
+xor_true : (x y : Bool) → ((beq (not (beq x y)) false || (beq x true || beq y true)) ≡ true) × ((beq (not (beq x y)) false || (beq x false || beq y false)) ≡ true) × ((beq (not (beq x y)) true || (beq x false || beq y true)) ≡ true) × ((beq (not (beq x y)) true || (beq x true || beq y false)) ≡ true)
+xor_true true true = (refl, refl, refl, refl)
+xor_true true false = (refl, refl, refl, refl)
+xor_true false true = (refl, refl, refl, refl)
+xor_true false false = (refl, refl, refl, refl)
+
+mux_true : (c x y : Bool) → ((beq (cond c x y) false || (beq c false || beq x true)) ≡ true) × ((beq (cond c x y) true || (beq c false || beq x false)) ≡ true) × ((beq (cond c x y) false || (beq c true || beq y true)) ≡ true) × ((beq (cond c x y) true || (beq c true || beq y false)) ≡ true)
+mux_true true true y = (refl, refl, refl, refl)
+mux_true true false y = (refl, refl, refl, refl)
+mux_true false x true = (refl, refl, refl, refl)
+mux_true false x false = (refl, refl, refl, refl)
+
+beq_on : (b : Bool) → beq b b ≡ true
+beq_on true = refl
+beq_on false = refl
+
+const_model : (u : ℕ → Bool) (v : ℕ) (b : Bool) → 1 ≤ v → u v ≡ b → IsModel u (gate_clauses v (Const b))
+const_model u v true h e = (clause_one u v true h ∙ ap (λ (x : Bool). beq x true) e, tt)
+const_model u v false h e = (clause_one u v false h ∙ ap (λ (x : Bool). beq x false) e, tt)
+
+gate_model : (u : ℕ → Bool) (v : ℕ) (g : Gate) → 1 ≤ v → InputsBelow v g → u v ≡ gate_value u g → IsModel u (gate_clauses v g)
+gate_model u v (Const b) h i e = const_model u v b h e
+gate_model u v (And a b) h i e =
+    let t = and_true (u a) (u b) in
+    (clause_two u v a false true h i.0.0 ∙ ap (λ (x : Bool). beq x false || beq (u a) true) e ∙ t.0,
+     (clause_two u v b false true h i.1.0 ∙ ap (λ (x : Bool). beq x false || beq (u b) true) e ∙ t.1,
+     (clause_three u v a b true false false h i.0.0 i.1.0 ∙ ap (λ (x : Bool). beq x true || (beq (u a) false || beq (u b) false)) e ∙ t.2,
+     tt)))
+gate_model u v (Xor a b) h i e =
+    let t = xor_true (u a) (u b) in
+    (clause_three u v a b false true true h i.0.0 i.1.0 ∙ ap (λ (x : Bool). beq x false || (beq (u a) true || beq (u b) true)) e ∙ t.0,
+     (clause_three u v a b false false false h i.0.0 i.1.0 ∙ ap (λ (x : Bool). beq x false || (beq (u a) false || beq (u b) false)) e ∙ t.1,
+     (clause_three u v a b true false true h i.0.0 i.1.0 ∙ ap (λ (x : Bool). beq x true || (beq (u a) false || beq (u b) true)) e ∙ t.2,
+     (clause_three u v a b true true false h i.0.0 i.1.0 ∙ ap (λ (x : Bool). beq x true || (beq (u a) true || beq (u b) false)) e ∙ t.3,
+     tt))))
+gate_model u v (Mux c a b) h i e =
+    let t = mux_true (u c) (u a) (u b) in
+    (clause_three u v c a false false true h i.0.0 i.1.0 ∙ ap (λ (x : Bool). beq x false || (beq (u c) false || beq (u a) true)) e ∙ t.0,
+     (clause_three u v c a true false false h i.0.0 i.1.0 ∙ ap (λ (x : Bool). beq x true || (beq (u c) false || beq (u a) false)) e ∙ t.1,
+     (clause_three u v c b false true true h i.0.0 i.2.0 ∙ ap (λ (x : Bool). beq x false || (beq (u c) true || beq (u b) true)) e ∙ t.2,
+     (clause_three u v c b true true false h i.0.0 i.2.0 ∙ ap (λ (x : Bool). beq x true || (beq (u c) true || beq (u b) false)) e ∙ t.3,
+     tt))))
+
+and_only : (v x y : Bool) → (beq v false || beq x true) ≡ true → (beq v false || beq y true) ≡ true → (beq v true || (beq x false || beq y false)) ≡ true → v ≡ (x && y)
+and_only true true true p q r = refl
+and_only true true false p q r = absurd (false≢true q)
+and_only true false y p q r = absurd (false≢true p)
+and_only false true true p q r = absurd (false≢true r)
+and_only false true false p q r = refl
+and_only false false y p q r = refl
+
+xor_only : (v x y : Bool) → (beq v false || (beq x true || beq y true)) ≡ true → (beq v false || (beq x false || beq y false)) ≡ true → (beq v true || (beq x false || beq y true)) ≡ true → (beq v true || (beq x true || beq y false)) ≡ true → v ≡ not (beq x y)
+xor_only true true true p q r s = absurd (false≢true q)
+xor_only true true false p q r s = refl
+xor_only true false true p q r s = refl
+xor_only true false false p q r s = absurd (false≢true p)
+xor_only false true true p q r s = refl
+xor_only false true false p q r s = absurd (false≢true r)
+xor_only false false true p q r s = absurd (false≢true s)
+xor_only false false false p q r s = refl
+
+mux_only : (v c x y : Bool) → (beq v false || (beq c false || beq x true)) ≡ true → (beq v true || (beq c false || beq x false)) ≡ true → (beq v false || (beq c true || beq y true)) ≡ true → (beq v true || (beq c true || beq y false)) ≡ true → v ≡ cond c x y
+mux_only true true true y p q r s = refl
+mux_only true true false y p q r s = absurd (false≢true p)
+mux_only false true true y p q r s = absurd (false≢true q)
+mux_only false true false y p q r s = refl
+mux_only true false x true p q r s = refl
+mux_only true false x false p q r s = absurd (false≢true r)
+mux_only false false x true p q r s = absurd (false≢true s)
+mux_only false false x false p q r s = refl
+
+const_only : (u : ℕ → Bool) (v : ℕ) (b : Bool) → 1 ≤ v → IsModel u (gate_clauses v (Const b)) → u v ≡ b
+const_only u v true h m = beq_is (u v) true (sym (clause_one u v true h) ∙ m.0)
+const_only u v false h m = beq_is (u v) false (sym (clause_one u v false h) ∙ m.0)
+
+gate_only : (u : ℕ → Bool) (v : ℕ) (g : Gate) → 1 ≤ v → InputsBelow v g → IsModel u (gate_clauses v g) → u v ≡ gate_value u g
+gate_only u v (Const b) h i m = const_only u v b h m
+gate_only u v (And a b) h i m =
+    and_only (u v) (u a) (u b) (sym (clause_two u v a false true h i.0.0) ∙ m.0) (sym (clause_two u v b false true h i.1.0) ∙ m.1.0) (sym (clause_three u v a b true false false h i.0.0 i.1.0) ∙ m.1.1.0)
+gate_only u v (Xor a b) h i m =
+    xor_only (u v) (u a) (u b) (sym (clause_three u v a b false true true h i.0.0 i.1.0) ∙ m.0) (sym (clause_three u v a b false false false h i.0.0 i.1.0) ∙ m.1.0)
+      (sym (clause_three u v a b true false true h i.0.0 i.1.0) ∙ m.1.1.0) (sym (clause_three u v a b true true false h i.0.0 i.1.0) ∙ m.1.1.1.0)
+gate_only u v (Mux c a b) h i m =
+    mux_only (u v) (u c) (u a) (u b) (sym (clause_three u v c a false false true h i.0.0 i.1.0) ∙ m.0) (sym (clause_three u v c a true false false h i.0.0 i.1.0) ∙ m.1.0)
+      (sym (clause_three u v c b false true true h i.0.0 i.2.0) ∙ m.1.1.0) (sym (clause_three u v c b true true false h i.0.0 i.2.0) ∙ m.1.1.1.0)
+
+value_off : (w : ℕ → Bool) (v : ℕ) (b : Bool) (x : ℕ) → (x ≡ v → ⊥) → with_value w v b x ≡ w x
+value_off w v b x ne = cond-false (eqb x v) b (w x) (ne_eqb x v ne)
+
+value_on : (w : ℕ → Bool) (v : ℕ) (b : Bool) → with_value w v b v ≡ b
+value_on w v b = cond-true (eqb v v) b (w v) (eq-eqb v v refl)
+
+extended_low : (w : ℕ → Bool) (n : ℕ) (gs : List Gate) (x : ℕ) → x ≤ n → extended w n gs x ≡ w x
+extended_low w n [] x le = refl
+extended_low w n (g ∷ gs) x le = extended_low (with_value w (n + 1) (gate_value w g)) (n + 1) gs x (omega arith) ∙ value_off w (n + 1) (gate_value w g) x (λ e. omega arith)
+
+value_by_inputs : (u w : ℕ → Bool) (v : ℕ) (g : Gate) → InputsBelow v g → ((x : ℕ) → 1 ≤ x → x + 1 ≤ v → u x ≡ w x) → gate_value u g ≡ gate_value w g
+value_by_inputs u w v (Const b) i h = refl
+value_by_inputs u w v (And a b) i h = ap₂ (λ (p q : Bool). p && q) (h a i.0.0 i.0.1) (h b i.1.0 i.1.1)
+value_by_inputs u w v (Xor a b) i h = ap₂ (λ (p q : Bool). not (beq p q)) (h a i.0.0 i.0.1) (h b i.1.0 i.1.1)
+value_by_inputs u w v (Mux c a b) i h =
+    ap (λ (p : Bool). cond p (u a) (u b)) (h c i.0.0 i.0.1) ∙ ap₂ (λ (p q : Bool). cond (w c) p q) (h a i.1.0 i.1.1) (h b i.2.0 i.2.1)
+
+models_append : (u : ℕ → Bool) (cs ds : List (List Lit)) → IsModel u cs → IsModel u ds → IsModel u (cs ++ ds)
+models_append u [] ds m k = k
+models_append u (c ∷ cs) ds m k = (m.0, models_append u cs ds m.1 k)
+
+models_parts : (u : ℕ → Bool) (cs ds : List (List Lit)) → IsModel u (cs ++ ds) → IsModel u cs × IsModel u ds
+models_parts u [] ds m = (tt, m)
+models_parts u (c ∷ cs) ds m = let p = models_parts u cs ds m.1 in ((m.0, p.0), p.1)
+
+extended_model : (w : ℕ → Bool) (n : ℕ) (gs : List Gate) → AllInputsBelow n gs → IsModel (extended w n gs) (gates_clauses n gs)
+extended_model w n [] i = tt
+extended_model w n (g ∷ gs) i =
+    let w' = with_value w (n + 1) (gate_value w g) in
+    let u = extended w' (n + 1) gs in
+    let low : (x : ℕ) → 1 ≤ x → x + 1 ≤ n + 1 → u x ≡ w x = λ x p q. extended_low w' (n + 1) gs x (omega arith) ∙ value_off w (n + 1) (gate_value w g) x (λ e. omega arith) in
+    let here : u (n + 1) ≡ gate_value u g =
+      extended_low w' (n + 1) gs (n + 1) (omega arith) ∙ value_on w (n + 1) (gate_value w g) ∙ sym (value_by_inputs u w (n + 1) g i.0 low) in
+    models_append u (gate_clauses (n + 1) g) (gates_clauses (n + 1) gs) (gate_model u (n + 1) g (omega arith) i.0 here) (extended_model w' (n + 1) gs i.1)
+
+extended_only : (u w : ℕ → Bool) (n : ℕ) (gs : List Gate) → AllInputsBelow n gs → IsModel u (gates_clauses n gs) → ((x : ℕ) → 1 ≤ x → x ≤ n → u x ≡ w x) → (x : ℕ) → 1 ≤ x → x ≤ n + length gs → u x ≡ extended w n gs x
+extended_only u w n [] i m h x p q = h x p (omega arith)
+extended_only u w n (g ∷ gs) i m h x p q =
+    let w' = with_value w (n + 1) (gate_value w g) in
+    let parts = models_parts u (gate_clauses (n + 1) g) (gates_clauses (n + 1) gs) m in
+    let here : u (n + 1) ≡ gate_value w g = gate_only u (n + 1) g (omega arith) i.0 parts.0 ∙ value_by_inputs u w (n + 1) g i.0 (λ y r s. h y r (omega arith)) in
+    let low : (y : ℕ) → 1 ≤ y → y ≤ n + 1 → u y ≡ w' y =
+      λ y r s. elim (cases_eq y (n + 1)) [
+          inl e ↦ ap u e ∙ here ∙ sym (value_on w (n + 1) (gate_value w g)) ∙ ap w' (sym e)
+        | inr ne ↦ h y r (omega arith) ∙ sym (value_off w (n + 1) (gate_value w g) y ne)
+        ] in
+    extended_only u w' (n + 1) gs i.1 parts.1 low x p (omega arith)
+
+pub extends_once : (cs : List (List Lit)) (variables leaves : ℕ) (f : IsGateFormula cs variables leaves) (w : ℕ → Bool) → ExtendsOnce variables leaves f.gates f.goal w
+extends_once cs variables leaves f w =
+    let u = extended w leaves f.gates in
+    let base = gates_clauses leaves f.gates in
+    record {
+      leaf = extended_low w leaves f.gates;
+      model = extended_model w leaves f.gates f.inputs;
+      only = λ t m h x p q. extended_only t w leaves f.gates f.inputs m h x p (let c = f.count in omega arith);
+      last =
+        (λ m. beq_is (u f.goal) true (sym (clause_one u f.goal true f.goal_above) ∙ (models_parts u base ((literal_of f.goal true ∷ []) ∷ []) m).1.0),
+         λ e. models_append u base ((literal_of f.goal true ∷ []) ∷ []) (extended_model w leaves f.gates f.inputs)
+           (clause_one u f.goal true f.goal_above ∙ ap (λ (b : Bool). beq b true) e, tt))
+    }

@@ -1,10 +1,11 @@
 -- Gate formulas: one gate for each variable above the leaves, and a goal.
-use Rattle.std.specs.Prelude.{◌≡◌, ℕ, ◌+◌, ◌≤◌, Bool, true, false, cond, eqb, List, [], ◌∷◌, ◌++◌, length}
+use Rattle.std.specs.Prelude.{◌≡◌, ◌↔◌, ℕ, ◌+◌, ◌≤◌, Bool, true, false, cond, eqb, List, [], ◌∷◌, ◌++◌, length}
 use mathlib.Core.Bool.{not, beq, ◌&&◌}
 use Rattle.cnf_core.specs.declared.lit.Lit.{Lit}
 use Rattle.cnf_core.specs.declared.gate.Gate.{Gate}
 use Rattle.cnf_core.specs.declared.gate.Gate.TheVariants.{Const, And, Xor, Mux}
 use Rattle.cnf_core.specs.Lit.{literal_of}
+use Rattle.cnf_core.specs.Model.{IsModel}
 
 -- the clauses that say that v has the gate's value
 abbrev pub gate_clauses : ℕ → Gate → List (List Lit)
@@ -71,3 +72,11 @@ pub record IsGateFormula (cs : List (List Lit)) (variables leaves : ℕ) : Type 
   pub goal_above : 1 ≤ goal
   pub goal_below : goal ≤ variables
   pub clauses : cs ≡ gates_clauses leaves gates ++ (literal_of goal true ∷ []) ∷ []
+
+-- each assignment of the leaves extends to exactly one that meets all clauses but the last, and that one meets the last exactly where
+-- its goal is 1
+pub record ExtendsOnce (variables leaves : ℕ) (gates : List Gate) (goal : ℕ) (w : ℕ → Bool) : Type 0 where
+  pub leaf : (x : ℕ) → x ≤ leaves → extended w leaves gates x ≡ w x
+  pub model : IsModel (extended w leaves gates) (gates_clauses leaves gates)
+  pub only : (u : ℕ → Bool) → IsModel u (gates_clauses leaves gates) → ((x : ℕ) → 1 ≤ x → x ≤ leaves → u x ≡ w x) → (x : ℕ) → 1 ≤ x → x ≤ variables → u x ≡ extended w leaves gates x
+  pub last : IsModel (extended w leaves gates) (gates_clauses leaves gates ++ (literal_of goal true ∷ []) ∷ []) ↔ (extended w leaves gates goal ≡ true)

@@ -18,7 +18,7 @@ pub use dimacs_text::write_dimacs;
 pub use fault::TextFault;
 pub use formula::{Clause, ClauseList, Formula, IdList, Log, Step};
 pub use gate::Gate;
-pub use laws::refuted_has_no_model;
+pub use laws::{gate_formula_is_decided, refuted_has_no_model};
 pub use lit::Lit;
 pub use numbers::{integer, number, push_integer, push_number};
 pub use standing::Standing;
