@@ -1,5 +1,5 @@
 -- The text that is written for a formula says that formula.
-use Rattle.std.proofs.Common.{◌≡◌, ℕ, ◌+◌, ◌-◌, ◌<◌, ◌≤◌, ◌^◌, Bool, true, false, cond, eqb, List, [], ◌∷◌, ◌++◌, map, length, arith, refl, sym, ap, ap₂, subst, ◌∙◌, Option, Some, None, Result, Ok, Err, ℤ, pos, negsuc, zero, suc, append_assoc}
+use Rattle.std.proofs.Common.{◌≡◌, ℕ, ◌+◌, ◌-◌, ◌<◌, ◌≤◌, ◌^◌, eqb, List, [], ◌∷◌, ◌++◌, map, length, arith, refl, sym, ap, ◌∙◌, Option, Some, None, Ok, Err, ℤ, pos, negsuc, zero, suc, append_assoc}
 use Rattle.std.specs.Prelude.{codes}
 use Rattle.std.specs.Int.RustNames.{unsigned_abs}
 use Rattle.std.specs.Fmt.{decimal, signed_decimal}
@@ -9,10 +9,10 @@ use Rattle.std.proofs.lemmas.Fmt.{decimal_nonempty}
 use Rattle.cnf_core.specs.declared.lit.Lit.{Lit}
 use Rattle.cnf_core.specs.declared.formula.Formula.{Formula}
 use Rattle.cnf_core.specs.declared.dimacs.Reading.{Reading}
-use Rattle.cnf_core.specs.declared.dimacs.Stage.TheVariants.{Problem, Format, Variables, Count, Clauses}
-use Rattle.cnf_core.specs.Text.{is_newline, is_blank, text_lines, words_of, Word, marked, line_words, words_from, text_words, is_comment}
-use Rattle.cnf_core.specs.Numbers.{number_below, integer_below, numbers_text, AllFit}
-use Rattle.cnf_core.specs.Dimacs.{if_some, start, with_literal, stepped, Read, read_words, finished_at, at_line, dimacs_of}
+use Rattle.cnf_core.specs.declared.dimacs.Stage.TheVariants.{Count, Clauses}
+use Rattle.cnf_core.specs.Text.{is_newline, text_lines, words_of, Word, marked, line_words, words_from, text_words, is_comment}
+use Rattle.cnf_core.specs.Numbers.{integer_below, numbers_text, AllFit}
+use Rattle.cnf_core.specs.Dimacs.{if_some, start, with_literal, read_words, at_line, dimacs_of}
 use Rattle.cnf_core.specs.DimacsText.{clause_text, clauses_text, dimacs_text, AllInText, IsInText}
 use Rattle.cnf_core.proofs.TextLaws.{NoneEnds, none_append, parts_at, words_cons, words_one, decimal_no_blank, decimal_no_newline, decimal_said, integer_said, zero_said, last_number_words, numbers_no_newline, numbers_begin, no_comment}
 

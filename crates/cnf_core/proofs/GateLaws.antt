@@ -1,21 +1,18 @@
 -- Gate formulas: each assignment of the leaves extends to exactly one that meets the gates, and propagation finds it.
-use Rattle.std.proofs.Common.{◌≡◌, ℕ, ◌+◌, ◌-◌, ◌<◌, ◌≤◌, Bool, true, false, not, cond, eqb, ◌||◌, ◌&&◌, List, [], ◌∷◌, ◌++◌, length, arith, refl, sym, ap, ap₂, subst, ◌∙◌, Option, Some, None, inl, inr, ℤ, pos, negsuc, zero, suc}
+use Rattle.std.proofs.Common.{◌≡◌, ℕ, ◌+◌, ◌≤◌, Bool, true, false, not, cond, eqb, ◌||◌, ◌&&◌, List, [], ◌∷◌, ◌++◌, length, arith, refl, sym, ap, ap₂, subst, ◌∙◌, Option, Some, None, inl, inr, zero, suc}
 use Rattle.std.specs.List.{fold}
-use Rattle.std.proofs.lemmas.Bool.{eqb-true, cond-true, cond-false, eq-eqb, ne_eqb, cases_eq, lt-ltb, le-ltb, true≢false, false≢true, cases_lt}
-use Rattle.std.specs.Int.RustNames.{unsigned_abs}
-use lib.IntN.{neg_ℤ}
-use lib.Signed.{lt_z}
+use Rattle.std.proofs.lemmas.Bool.{cond-true, cond-false, eq-eqb, ne_eqb, cases_eq, lt-ltb, false≢true, cases_lt}
 use mathlib.Core.Bool.{beq}
 use Rattle.cnf_core.specs.declared.lit.Lit.{Lit}
 use Rattle.cnf_core.specs.declared.gate.Gate.{Gate}
 use Rattle.cnf_core.specs.declared.gate.Gate.TheVariants.{Const, And, Xor, Mux}
 use Rattle.cnf_core.specs.declared.standing.Standing.{Standing}
-use Rattle.cnf_core.specs.declared.standing.Standing.TheVariants.{Falsified, Unit as UnitAt, Neither}
+use Rattle.cnf_core.specs.declared.standing.Standing.TheVariants.{Falsified, Unit as UnitAt}
 use Rattle.cnf_core.specs.Lit.{variable_of, is_positive, literal_of}
 use Rattle.cnf_core.specs.Model.{lit_true, clause_true, IsModel}
-use Rattle.cnf_core.specs.Values.{Values, denies, grants, is_false, is_true, joined, meet, standing_of}
+use Rattle.cnf_core.specs.Values.{Values, denies, grants, is_false, joined, meet, standing_of}
 use Rattle.cnf_core.specs.Closed.{is_quiet, IsClosed, AreDecided}
-use Rattle.cnf_core.specs.Gates.{gate_clauses, gate_value, IsInput, InputsBelow, gates_clauses, AllInputsBelow, with_value, extended, IsGateFormula, ExtendsOnce}
+use Rattle.cnf_core.specs.Gates.{gate_clauses, gate_value, InputsBelow, gates_clauses, AllInputsBelow, with_value, extended, IsGateFormula, ExtendsOnce}
 
 pub literal_variable : (x : ℕ) (p : Bool) → variable_of (literal_of x p) ≡ x
 literal_variable x true = refl
@@ -162,25 +159,44 @@ const_model u v false h e = (clause_one u v false h ∙ ap (λ (x : Bool). beq x
 gate_model : (u : ℕ → Bool) (v : ℕ) (g : Gate) → 1 ≤ v → InputsBelow v g → u v ≡ gate_value u g → IsModel u (gate_clauses v g)
 gate_model u v (Const b) h i e = const_model u v b h e
 gate_model u v (And a b) h i e =
-    let t = and_true (u a) (u b) in
-    (clause_two u v a false true h i.0.0 ∙ ap (λ (x : Bool). beq x false || beq (u a) true) e ∙ t.0,
-     (clause_two u v b false true h i.1.0 ∙ ap (λ (x : Bool). beq x false || beq (u b) true) e ∙ t.1,
-     (clause_three u v a b true false false h i.0.0 i.1.0 ∙ ap (λ (x : Bool). beq x true || (beq (u a) false || beq (u b) false)) e ∙ t.2,
-     tt)))
+    let t = and_true (u a) (u b) in (
+      clause_two u v a false true h i.0.0 ∙ ap (λ (x : Bool). beq x false || beq (u a) true) e ∙ t.0,
+      (
+        clause_two u v b false true h i.1.0 ∙ ap (λ (x : Bool). beq x false || beq (u b) true) e ∙ t.1,
+        (
+          clause_three u v a b true false false h i.0.0 i.1.0 ∙ ap (λ (x : Bool). beq x true || (beq (u a) false || beq (u b) false)) e ∙ t.2,
+          tt,
+        ),
+      ),
+    )
 gate_model u v (Xor a b) h i e =
-    let t = xor_true (u a) (u b) in
-    (clause_three u v a b false true true h i.0.0 i.1.0 ∙ ap (λ (x : Bool). beq x false || (beq (u a) true || beq (u b) true)) e ∙ t.0,
-     (clause_three u v a b false false false h i.0.0 i.1.0 ∙ ap (λ (x : Bool). beq x false || (beq (u a) false || beq (u b) false)) e ∙ t.1,
-     (clause_three u v a b true false true h i.0.0 i.1.0 ∙ ap (λ (x : Bool). beq x true || (beq (u a) false || beq (u b) true)) e ∙ t.2,
-     (clause_three u v a b true true false h i.0.0 i.1.0 ∙ ap (λ (x : Bool). beq x true || (beq (u a) true || beq (u b) false)) e ∙ t.3,
-     tt))))
+    let t = xor_true (u a) (u b) in (
+      clause_three u v a b false true true h i.0.0 i.1.0 ∙ ap (λ (x : Bool). beq x false || (beq (u a) true || beq (u b) true)) e ∙ t.0,
+      (
+        clause_three u v a b false false false h i.0.0 i.1.0 ∙ ap (λ (x : Bool). beq x false || (beq (u a) false || beq (u b) false)) e ∙ t.1,
+        (
+          clause_three u v a b true false true h i.0.0 i.1.0 ∙ ap (λ (x : Bool). beq x true || (beq (u a) false || beq (u b) true)) e ∙ t.2,
+          (
+            clause_three u v a b true true false h i.0.0 i.1.0 ∙ ap (λ (x : Bool). beq x true || (beq (u a) true || beq (u b) false)) e ∙ t.3,
+            tt,
+          ),
+        ),
+      ),
+    )
 gate_model u v (Mux c a b) h i e =
-    let t = mux_true (u c) (u a) (u b) in
-    (clause_three u v c a false false true h i.0.0 i.1.0 ∙ ap (λ (x : Bool). beq x false || (beq (u c) false || beq (u a) true)) e ∙ t.0,
-     (clause_three u v c a true false false h i.0.0 i.1.0 ∙ ap (λ (x : Bool). beq x true || (beq (u c) false || beq (u a) false)) e ∙ t.1,
-     (clause_three u v c b false true true h i.0.0 i.2.0 ∙ ap (λ (x : Bool). beq x false || (beq (u c) true || beq (u b) true)) e ∙ t.2,
-     (clause_three u v c b true true false h i.0.0 i.2.0 ∙ ap (λ (x : Bool). beq x true || (beq (u c) true || beq (u b) false)) e ∙ t.3,
-     tt))))
+    let t = mux_true (u c) (u a) (u b) in (
+      clause_three u v c a false false true h i.0.0 i.1.0 ∙ ap (λ (x : Bool). beq x false || (beq (u c) false || beq (u a) true)) e ∙ t.0,
+      (
+        clause_three u v c a true false false h i.0.0 i.1.0 ∙ ap (λ (x : Bool). beq x true || (beq (u c) false || beq (u a) false)) e ∙ t.1,
+        (
+          clause_three u v c b false true true h i.0.0 i.2.0 ∙ ap (λ (x : Bool). beq x false || (beq (u c) true || beq (u b) true)) e ∙ t.2,
+          (
+            clause_three u v c b true true false h i.0.0 i.2.0 ∙ ap (λ (x : Bool). beq x true || (beq (u c) true || beq (u b) false)) e ∙ t.3,
+            tt,
+          ),
+        ),
+      ),
+    )
 
 and_only : (v x y : Bool) → (beq v false || beq x true) ≡ true → (beq v false || beq y true) ≡ true → (beq v true || (beq x false || beq y false)) ≡ true → v ≡ (x && y)
 and_only true true true p q r = refl
@@ -220,10 +236,10 @@ gate_only u v (And a b) h i m =
     and_only (u v) (u a) (u b) (sym (clause_two u v a false true h i.0.0) ∙ m.0) (sym (clause_two u v b false true h i.1.0) ∙ m.1.0) (sym (clause_three u v a b true false false h i.0.0 i.1.0) ∙ m.1.1.0)
 gate_only u v (Xor a b) h i m =
     xor_only (u v) (u a) (u b) (sym (clause_three u v a b false true true h i.0.0 i.1.0) ∙ m.0) (sym (clause_three u v a b false false false h i.0.0 i.1.0) ∙ m.1.0)
-      (sym (clause_three u v a b true false true h i.0.0 i.1.0) ∙ m.1.1.0) (sym (clause_three u v a b true true false h i.0.0 i.1.0) ∙ m.1.1.1.0)
+    (sym (clause_three u v a b true false true h i.0.0 i.1.0) ∙ m.1.1.0) (sym (clause_three u v a b true true false h i.0.0 i.1.0) ∙ m.1.1.1.0)
 gate_only u v (Mux c a b) h i m =
     mux_only (u v) (u c) (u a) (u b) (sym (clause_three u v c a false false true h i.0.0 i.1.0) ∙ m.0) (sym (clause_three u v c a true false false h i.0.0 i.1.0) ∙ m.1.0)
-      (sym (clause_three u v c b false true true h i.0.0 i.2.0) ∙ m.1.1.0) (sym (clause_three u v c b true true false h i.0.0 i.2.0) ∙ m.1.1.1.0)
+    (sym (clause_three u v c b false true true h i.0.0 i.2.0) ∙ m.1.1.0) (sym (clause_three u v c b true true false h i.0.0 i.2.0) ∙ m.1.1.1.0)
 
 value_off : (w : ℕ → Bool) (v : ℕ) (b : Bool) (x : ℕ) → (x ≡ v → ⊥) → with_value w v b x ≡ w x
 value_off w v b x ne = cond-false (eqb x v) b (w x) (ne_eqb x v ne)
@@ -257,7 +273,7 @@ extended_model w n (g ∷ gs) i =
     let u = extended w' (n + 1) gs in
     let low : (x : ℕ) → 1 ≤ x → x + 1 ≤ n + 1 → u x ≡ w x = λ x p q. extended_low w' (n + 1) gs x (omega arith) ∙ value_off w (n + 1) (gate_value w g) x (λ e. omega arith) in
     let here : u (n + 1) ≡ gate_value u g =
-      extended_low w' (n + 1) gs (n + 1) (omega arith) ∙ value_on w (n + 1) (gate_value w g) ∙ sym (value_by_inputs u w (n + 1) g i.0 low) in
+    extended_low w' (n + 1) gs (n + 1) (omega arith) ∙ value_on w (n + 1) (gate_value w g) ∙ sym (value_by_inputs u w (n + 1) g i.0 low) in
     models_append u (gate_clauses (n + 1) g) (gates_clauses (n + 1) gs) (gate_model u (n + 1) g (omega arith) i.0 here) (extended_model w' (n + 1) gs i.1)
 
 extended_only : (u w : ℕ → Bool) (n : ℕ) (gs : List Gate) → AllInputsBelow n gs → IsModel u (gates_clauses n gs) → ((x : ℕ) → 1 ≤ x → x ≤ n → u x ≡ w x) → (x : ℕ) → 1 ≤ x → x ≤ n + length gs → u x ≡ extended w n gs x
@@ -267,10 +283,10 @@ extended_only u w n (g ∷ gs) i m h x p q =
     let parts = models_parts u (gate_clauses (n + 1) g) (gates_clauses (n + 1) gs) m in
     let here : u (n + 1) ≡ gate_value w g = gate_only u (n + 1) g (omega arith) i.0 parts.0 ∙ value_by_inputs u w (n + 1) g i.0 (λ y r s. h y r (omega arith)) in
     let low : (y : ℕ) → 1 ≤ y → y ≤ n + 1 → u y ≡ w' y =
-      λ y r s. elim (cases_eq y (n + 1)) [
-          inl e ↦ ap u e ∙ here ∙ sym (value_on w (n + 1) (gate_value w g)) ∙ ap w' (sym e)
-        | inr ne ↦ h y r (omega arith) ∙ sym (value_off w (n + 1) (gate_value w g) y ne)
-        ] in
+    λ y r s. elim (cases_eq y (n + 1)) [
+      | inl e ↦ ap u e ∙ here ∙ sym (value_on w (n + 1) (gate_value w g)) ∙ ap w' (sym e)
+      | inr ne ↦ h y r (omega arith) ∙ sym (value_off w (n + 1) (gate_value w g) y ne)
+    ] in
     extended_only u w' (n + 1) gs i.1 parts.1 low x p (omega arith)
 
 pub extends_once : (cs : List (List Lit)) (variables leaves : ℕ) (f : IsGateFormula cs variables leaves) (w : ℕ → Bool) → ExtendsOnce variables leaves f.gates f.goal w
@@ -281,8 +297,9 @@ extends_once cs variables leaves f w =
       leaf = extended_low w leaves f.gates;
       model = extended_model w leaves f.gates f.inputs;
       only = λ t m h x p q. extended_only t w leaves f.gates f.inputs m h x p (let c = f.count in omega arith);
-      last =
-        (λ m. beq_is (u f.goal) true (sym (clause_one u f.goal true f.goal_above) ∙ (models_parts u base ((literal_of f.goal true ∷ []) ∷ []) m).1.0),
-         λ e. models_append u base ((literal_of f.goal true ∷ []) ∷ []) (extended_model w leaves f.gates f.inputs)
-           (clause_one u f.goal true f.goal_above ∙ ap (λ (b : Bool). beq b true) e, tt))
+      last = (
+        λ m. beq_is (u f.goal) true (sym (clause_one u f.goal true f.goal_above) ∙ (models_parts u base ((literal_of f.goal true ∷ []) ∷ []) m).1.0),
+        λ e. models_append u base ((literal_of f.goal true ∷ []) ∷ []) (extended_model w leaves f.gates f.inputs)
+            (clause_one u f.goal true f.goal_above ∙ ap (λ (b : Bool). beq b true) e, tt),
+      );
     }

@@ -1,5 +1,5 @@
 -- Words and numbers that are written are read back.
-use Rattle.std.proofs.Common.{◌≡◌, ℕ, ◌+◌, ◌-◌, ◌<◌, ◌≤◌, ◌^◌, Bool, true, false, cond, eqb, ltb, ◌||◌, ◌&&◌, List, [], ◌∷◌, ◌++◌, map, length, get_or, arith, refl, sym, ap, ap₂, subst, ◌∙◌, Option, Some, None, ℤ, pos, negsuc, zero, suc, append_assoc}
+use Rattle.std.proofs.Common.{◌≡◌, ℕ, ◌<◌, ◌≤◌, ◌^◌, Bool, true, false, eqb, ltb, ◌||◌, List, [], ◌∷◌, ◌++◌, map, length, arith, refl, sym, ap, ap₂, ◌∙◌, Some, None, ℤ, pos, negsuc, suc, append_assoc}
 use Rattle.std.specs.Int.RustNames.{unsigned_abs}
 use lib.IntN.{neg_ℤ}
 use Rattle.std.specs.Char.{is_ascii_digit}
@@ -9,10 +9,9 @@ use Rattle.std.specs.Str.Parse.{digits_value}
 use Rattle.std.specs.Fmt.{decimal, signed_decimal}
 use Rattle.std.proofs.lemmas.Str.Parse.{IsNumeralModel, numerals_by_value, tells_all_ascii_digits}
 use Rattle.std.proofs.lemmas.Fmt.{digits_decimal, digits_value-decimal, decimal_nonempty, decimal_digit}
-use Rattle.std.proofs.lemmas.Bool.{cond-true, cond-false, ne_eqb, eq-eqb, lt-ltb, and_parts}
+use Rattle.std.proofs.lemmas.Bool.{cond-true, cond-false, ne_eqb, lt-ltb, and_parts}
 use Rattle.cnf_core.specs.Text.{is_newline, is_blank, onto_first, parts, onto_full, full_parts, words_of, is_comment}
 use Rattle.cnf_core.specs.Numbers.{number_below, integer_below, negative, positive, numbers_text, AllFit}
-use Rattle.cnf_core.proofs.PartLaws.{parts_whole}
 use Rattle.cnf_core.proofs.NumberLaws.{number_said, digit_range}
 
 -- no byte of the list ends a part

@@ -1,7 +1,6 @@
 -- DIMACS texts: `p cnf V C`, then C clauses, each ended by 0.
-use Rattle.std.specs.Prelude.{◌≡◌, ℕ, ◌+◌, ◌-◌, ◌^◌, ℤ, pos, negsuc, zero, suc, Bool, true, false, cond, eqb, List, [], ◌∷◌, ◌++◌, length, Option, Some, None, Result, Ok, Err, codes}
+use Rattle.std.specs.Prelude.{◌≡◌, ℕ, ◌+◌, ◌-◌, ◌^◌, ℤ, pos, negsuc, zero, suc, cond, eqb, List, [], ◌∷◌, ◌++◌, Option, Some, None, Result, Ok, Err, codes}
 use Rattle.std.specs.Str.{bytes_eq}
-use Rattle.cnf_core.specs.declared.lit.Lit.{Lit}
 use Rattle.cnf_core.specs.declared.formula.Formula.{Formula}
 use Rattle.cnf_core.specs.declared.fault.TextFault.{TextFault}
 use Rattle.cnf_core.specs.declared.fault.TextFault.TheVariants.{Bad, NoMemory}

@@ -1,6 +1,5 @@
 -- Texts as lines, and lines as words.
-use Rattle.std.specs.Prelude.{ℕ, ◌+◌, Bool, true, false, cond, eqb, ◌||◌, List, [], ◌∷◌, ◌++◌, map, length, Option, Some, None}
-use mathlib.Core.Bool.{not}
+use Rattle.std.specs.Prelude.{ℕ, ◌+◌, Bool, false, cond, eqb, ◌||◌, List, [], ◌∷◌, ◌++◌, length}
 
 abbrev pub is_newline : ℕ → Bool
 is_newline b = eqb b 10

@@ -23,3 +23,6 @@ pub use lit::Lit;
 pub use numbers::{integer, number, push_integer, push_number};
 pub use standing::Standing;
 pub use text::{Separator, cut, is_comment, next_word};
+
+#[cfg(test)]
+mod tests;

@@ -1,5 +1,5 @@
 -- The text that is written for a log says that log.
-use Rattle.std.proofs.Common.{◌≡◌, ℕ, ◌+◌, ◌-◌, ◌<◌, ◌≤◌, ◌^◌, Bool, true, false, cond, eqb, ◌&&◌, List, [], ◌∷◌, ◌++◌, map, length, arith, refl, sym, ap, ap₂, subst, ◌∙◌, Option, Some, None, Result, Ok, Err, ℤ, pos, negsuc, zero, suc, append_assoc}
+use Rattle.std.proofs.Common.{◌≡◌, ℕ, ◌+◌, ◌<◌, ◌≤◌, ◌^◌, Bool, false, cond, eqb, ◌&&◌, List, [], ◌∷◌, ◌++◌, map, arith, refl, ap, ◌∙◌, Option, Some, None, Ok, Err, ℤ, pos, negsuc, zero, suc, append_assoc}
 use Rattle.std.specs.Prelude.{codes}
 use Rattle.std.specs.Str.{bytes_eq}
 use Rattle.std.specs.Int.RustNames.{unsigned_abs}
@@ -8,11 +8,11 @@ use Rattle.std.proofs.lemmas.Bool.{cond-true, cond-false, ne_eqb}
 use Rattle.std.proofs.lemmas.Fmt.{decimal_nonempty}
 use Rattle.cnf_core.specs.declared.formula.Step.{Step}
 use Rattle.cnf_core.specs.declared.formula.Step.TheVariants.{Add, Delete}
-use Rattle.cnf_core.specs.Text.{is_newline, is_blank, text_lines, words_of, is_comment}
-use Rattle.cnf_core.specs.Numbers.{number_below, integer_below, numbers_text, AllFit}
+use Rattle.cnf_core.specs.Text.{is_newline, text_lines, words_of, is_comment}
+use Rattle.cnf_core.specs.Numbers.{numbers_text, AllFit}
 use Rattle.cnf_core.specs.Dimacs.{if_some}
-use Rattle.cnf_core.proofs.TextLaws.{NoneEnds, none_append, parts_at, words_cons, decimal_no_blank, decimal_no_newline, decimal_said, integer_said, zero_said, number_words, last_number_words, numbers_no_newline, numbers_begin, no_comment, BeginsNumber, begins_more, signed_begins}
-use Rattle.lrat_checker.specs.Lrat.{Found, onto_found, go_on, until_zero, nothing_behind, ended, all_positive, deletion, with_hints, addition, after_id, id_of, step_of, one_step, steps_of_words, steps_of_line, onto_log, log_from, as_fault, lrat_of}
+use Rattle.cnf_core.proofs.TextLaws.{NoneEnds, none_append, parts_at, words_cons, decimal_no_blank, decimal_no_newline, decimal_said, integer_said, zero_said, number_words, last_number_words, numbers_no_newline, no_comment, BeginsNumber, begins_more, signed_begins}
+use Rattle.lrat_checker.specs.Lrat.{Found, onto_found, go_on, until_zero, ended, all_positive, deletion, with_hints, addition, after_id, id_of, one_step, steps_of_words, steps_of_line, onto_log, log_from, as_fault, lrat_of}
 use Rattle.lrat_checker.specs.LratText.{step_text, log_text, StepInText, LogInText}
 
 goes_on : (z : ℤ) (ws : List (List ℕ)) (zs : List ℤ) (behind : List (List ℕ)) (o : Option Found) → 1 ≤ unsigned_abs z → o ≡ Some (record { numbers = zs; behind = behind }) → go_on z ws o ≡ Some (record { numbers = z ∷ zs; behind = behind })

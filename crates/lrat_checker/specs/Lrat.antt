@@ -1,5 +1,5 @@
 -- LRAT texts: a step a line, `id lits 0 hints 0` or `id d ids 0`.
-use Rattle.std.specs.Prelude.{◌≡◌, ℕ, ◌+◌, ◌^◌, ℤ, pos, negsuc, zero, suc, Bool, true, false, cond, eqb, List, [], ◌∷◌, ◌++◌, Option, Some, None, Result, Ok, Err, codes}
+use Rattle.std.specs.Prelude.{ℕ, ◌+◌, ◌^◌, ℤ, pos, negsuc, zero, suc, Bool, true, false, cond, eqb, List, [], ◌∷◌, ◌++◌, Option, Some, None, Result, Ok, Err, codes}
 use Rattle.std.specs.Str.{bytes_eq}
 use Rattle.cnf_core.specs.declared.formula.Step.{Step}
 use Rattle.cnf_core.specs.declared.formula.Step.TheVariants.{Add, Delete}

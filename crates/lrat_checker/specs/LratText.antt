@@ -1,7 +1,6 @@
 -- The LRAT text that is written for a log, and the logs that a text can hold.
-use Rattle.std.specs.Prelude.{◌≡◌, ℕ, ◌+◌, ◌^◌, ◌≤◌, ◌<◌, ℤ, pos, negsuc, Bool, true, List, [], ◌∷◌, ◌++◌, codes}
-use Rattle.std.specs.Int.RustNames.{unsigned_abs}
-use Rattle.std.specs.Fmt.{decimal, signed_decimal}
+use Rattle.std.specs.Prelude.{◌≡◌, ℕ, ◌^◌, ◌≤◌, ◌<◌, true, List, [], ◌∷◌, ◌++◌, codes}
+use Rattle.std.specs.Fmt.{decimal}
 use Rattle.cnf_core.specs.declared.formula.Step.{Step}
 use Rattle.cnf_core.specs.declared.formula.Step.TheVariants.{Add, Delete}
 use Rattle.cnf_core.specs.Numbers.{numbers_text, AllFit}

@@ -1,6 +1,6 @@
 -- The walk over the nodes gives a gate formula with the values of the net.
-use Rattle.std.proofs.Common.{◌≡◌, ℕ, ◌+◌, ◌*◌, ◌<◌, ◌≤◌, ◌^◌, Bool, true, false, not, cond, eqb, ◌||◌, ◌&&◌, List, [], ◌∷◌, ◌++◌, length, get_or, set, take, arith, refl, sym, ap, ap₂, subst, ◌∙◌, zero, suc, inl, inr, append_assoc, get_or-set_same, get_or-set_other, length-append, length-take-le}
-use Rattle.std.proofs.lemmas.Bool.{cond-true, cond-false, eq-eqb, ne_eqb, eqb-true, cases_eq, cases_lt}
+use Rattle.std.proofs.Common.{◌≡◌, ℕ, ◌+◌, ◌*◌, ◌<◌, ◌≤◌, ◌^◌, Bool, true, false, not, cond, eqb, ◌||◌, ◌&&◌, List, [], ◌∷◌, ◌++◌, length, get_or, set, take, arith, refl, sym, ap, ap₂, subst, ◌∙◌, inl, inr, append_assoc, get_or-set_same, get_or-set_other, length-append, length-take-le}
+use Rattle.std.proofs.lemmas.Bool.{cond-true, cond-false, eq-eqb, ne_eqb, cases_eq}
 use Rattle.std.proofs.lemmas.List.{append-nil, take_more}
 use mathlib.Core.Bool.{beq}
 use Rattle.cyc_net.specs.declared.node.Node.{Node}

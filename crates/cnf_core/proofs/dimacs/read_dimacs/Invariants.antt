@@ -1,4 +1,4 @@
-use Rattle.std.proofs.Common.{◌≡◌, ℕ, ◌+◌, ◌<◌, ◌≤◌, ◌^◌, List, length}
+use Rattle.std.proofs.Common.{◌≡◌, ◌+◌, ◌<◌, ◌≤◌, ◌^◌, length}
 use Rattle.cnf_core.specs.Text.{text_lines, words_from}
 use Rattle.cnf_core.specs.Dimacs.{read_words, start}
 use Rattle.cnf_core.proofs.dimacs.read_dimacs.Given as goal

@@ -1,6 +1,6 @@
-use Rattle.std.proofs.Common.{◌≡◌, ℕ, ◌+◌, ◌%◌, ◌/◌, ◌++◌, [], ◌∷◌, List, refl, sym, ap, ◌∙◌, arith, append_assoc}
+use Rattle.std.proofs.Common.{ℕ, ◌+◌, ◌%◌, ◌/◌, ◌++◌, [], ◌∷◌, List, sym, ap, ◌∙◌, arith, append_assoc}
 use Rattle.std.specs.Fmt.{decimal}
-use Rattle.std.proofs.lemmas.Fmt.{decimal_step, decimal_digit}
+use Rattle.std.proofs.lemmas.Fmt.{decimal_step}
 use Rattle.cnf_core.proofs.NumberLaws.{digit_of_small}
 use Rattle.cnf_core.proofs.numbers.+push_number.Goals as goal
 use Rattle.cnf_core.proofs.numbers.+push_number.Goals.{then-value-ge10+in_ok-push_number, else-value-ge10}

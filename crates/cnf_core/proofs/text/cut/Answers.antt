@@ -1,5 +1,5 @@
-use Rattle.std.proofs.Common.{◌≡◌, ℕ, ◌+◌, ◌<◌, List, [], ◌∷◌, length, take, drop, get_or, true, sym, ap, ◌∙◌, arith, suc, add-one}
-use Rattle.std.proofs.lemmas.List.{take_all, drop_all, get_or_read}
+use Rattle.std.proofs.Common.{ℕ, List, [], ◌∷◌, length, drop, sym, ap, ◌∙◌, arith, suc, add-one}
+use Rattle.std.proofs.lemmas.List.{take_all, drop_all}
 use Rattle.cnf_core.specs.Text.{parts}
 use Rattle.cnf_core.specs.Separators.{ends}
 use Rattle.cnf_core.proofs.PartLaws.{parts_cut, parts_whole}

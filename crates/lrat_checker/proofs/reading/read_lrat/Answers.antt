@@ -1,5 +1,4 @@
-use Rattle.std.proofs.Common.{◌≡◌, ℕ, ◌+◌, ◌≤◌, List, ◌∷◌, Some, None, cond, Bool, ap, ◌∙◌, arith, length}
-use Rattle.cnf_core.specs.declared.formula.Step.{Step}
+use Rattle.std.proofs.Common.{ℕ, ◌+◌, List, Some, None, cond, Bool, ap, ◌∙◌, arith}
 use Rattle.cnf_core.specs.Text.{text_lines}
 use Rattle.lrat_checker.specs.Lrat.{log_from, onto_log}
 use Rattle.lrat_checker.proofs.LratLaws.{log_goes_on}

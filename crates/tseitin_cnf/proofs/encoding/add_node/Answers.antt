@@ -1,11 +1,10 @@
-use Rattle.std.proofs.Common.{◌≡◌, ℕ, ◌+◌, ◌++◌, List, set, length, arith, refl, sym, ap, ap₂, subst, ◌∙◌}
+use Rattle.std.proofs.Common.{◌≡◌, ℕ, ◌+◌, set, sym, ap, ap₂, subst, ◌∙◌}
 use Rattle.cyc_net.specs.declared.node.Node.{Node}
-use Rattle.cnf_core.specs.declared.lit.Lit.{Lit}
 use Rattle.cnf_core.specs.declared.gate.Gate.{Gate}
 use Rattle.cnf_core.specs.declared.gate.Gate.TheVariants.{Const, And, Xor, Mux}
-use Rattle.tseitin_cnf.specs.Encoding.{Walk, with_node}
+use Rattle.tseitin_cnf.specs.Encoding.{with_node}
 use Rattle.tseitin_cnf.specs.Tracks.{Tracks, numbers}
-use Rattle.tseitin_cnf.proofs.WalkLaws.{tracks_gate, tracks_leaf}
+use Rattle.tseitin_cnf.proofs.WalkLaws.{tracks_gate}
 use Rattle.tseitin_cnf.proofs.encoding.add_node.Goals as goal
 use Rattle.tseitin_cnf.proofs.encoding.add_node.Goals.{in-Const, in-And, in-Xor, in-Mux}
 

@@ -1,11 +1,11 @@
-use Rattle.std.proofs.Common.{◌≡◌, ℕ, ◌+◌, ◌<◌, ◌≤◌, Bool, true, false, cond, List, length, get_or, take, arith, refl, sym, ap, subst, ◌∙◌}
+use Rattle.std.proofs.Common.{◌≡◌, Bool, false, cond, get_or, take, arith, sym, ap, subst, ◌∙◌}
 use Rattle.std.proofs.lemmas.List.{get_or_default}
 use Rattle.cyc_net.specs.declared.node.Node.{Node}
 use Rattle.cyc_net.specs.declared.node.Node.TheVariants.{Const}
 use Rattle.cyc_net.specs.Nets.{bit_at}
 use Rattle.cyc_net.proofs.NetLaws.{reads_all}
 use Rattle.tseitin_cnf.specs.Encoding.{Walk, walk, begin, with_node}
-use Rattle.tseitin_cnf.specs.Tracks.{Tracks, Good}
+use Rattle.tseitin_cnf.specs.Tracks.{Tracks}
 use Rattle.tseitin_cnf.proofs.WalkLaws.{node_leaf, inputs_named, good_more, good_start, tracks_start, walk_more}
 use Rattle.tseitin_cnf.proofs.encoding.add_nodes.Goals as goal
 use Rattle.tseitin_cnf.proofs.encoding.add_nodes.Goals.{then-marks-at+in_ok-last, else-marks-at}

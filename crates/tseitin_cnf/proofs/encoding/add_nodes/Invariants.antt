@@ -1,4 +1,4 @@
-use Rattle.std.proofs.Common.{◌≡◌, ◌+◌, take, length}
+use Rattle.std.proofs.Common.{◌≡◌, take, length}
 use Rattle.cyc_net.specs.Nets.{bit_at}
 use Rattle.tseitin_cnf.specs.Encoding.{walk, begin}
 use Rattle.tseitin_cnf.specs.Tracks.{Tracks, Good}

@@ -1,4 +1,4 @@
-use Rattle.std.proofs.Common.{◌≡◌, ℕ, ◌≤◌, length, arith, refl}
+use Rattle.std.proofs.Common.{arith, refl}
 use Rattle.cyc_net.specs.Nets.{bit_at}
 use Rattle.tseitin_cnf.specs.Encoding.{walk, begin}
 use Rattle.tseitin_cnf.specs.Tracks.{numbers}

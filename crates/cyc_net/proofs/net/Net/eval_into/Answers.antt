@@ -1,7 +1,7 @@
-use Rattle.std.proofs.Common.{◌≡◌, ◌+◌, ◌<◌, [], List, Bool, false, length, take, get_or, set, arith, sym, ap, subst, ◌∙◌, refl, length-set}
+use Rattle.std.proofs.Common.{◌≡◌, ◌+◌, [], Bool, false, length, take, get_or, set, arith, sym, subst, ◌∙◌, length-set}
 use Rattle.cyc_net.specs.declared.node.Node.{Node}
 use Rattle.cyc_net.specs.declared.node.Node.TheVariants.{Const}
-use Rattle.cyc_net.specs.Nets.{IsNet, ReadsBelow, LeavesBelow, LeafBelow, bit_at, run, gate_value}
+use Rattle.cyc_net.specs.Nets.{IsNet, LeavesBelow, bit_at, run}
 use Rattle.cyc_net.proofs.NetLaws.{reads_at, reads_more, leaf_at, run_more}
 use Rattle.std.proofs.lemmas.List.{get_or_default}
 use Rattle.cyc_net.proofs.net.Net.eval_into.Goals as goal

@@ -1,4 +1,4 @@
-use Rattle.std.proofs.Common.{◌≡◌, subst}
+use Rattle.std.proofs.Common.{subst}
 use Rattle.cyc_net.specs.Nets.{AllRead}
 use Rattle.cyc_net.proofs.net.Net.len.Goals as goal
 

@@ -1,5 +1,4 @@
-use Rattle.std.proofs.Common.{◌≡◌, get_or, arith, sym, subst}
-use Rattle.cyc_net.specs.declared.node.Node.{Node}
+use Rattle.std.proofs.Common.{arith, sym, subst}
 use Rattle.cyc_net.specs.Nets.{ReadsBelow}
 use Rattle.cyc_net.proofs.NetLaws.{reads_at}
 use Rattle.cyc_net.proofs.net.Net.node.Goals as goal

@@ -1,4 +1,4 @@
-use Rattle.std.proofs.Common.{◌≡◌, ◌+◌, ◌++◌, ◌∷◌, [], length, arith, sym, ap, subst, ◌∙◌, List}
+use Rattle.std.proofs.Common.{◌≡◌, ◌++◌, ◌∷◌, [], length, arith, sym, ap, subst, ◌∙◌, List}
 use Rattle.cyc_net.specs.declared.node.Node.{Node}
 use Rattle.cyc_net.specs.Nets.{ReadsBelow, IsNet, IsPushed, Extends}
 use Rattle.cyc_net.proofs.NetLaws.{IsNet-push, pushed, Extends-push}

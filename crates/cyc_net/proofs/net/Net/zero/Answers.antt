@@ -1,5 +1,3 @@
-use Rattle.std.proofs.Common.{◌≡◌}
-use Rattle.cyc_net.specs.Nets.{value}
 use Rattle.cyc_net.proofs.NetLaws.{value_zero}
 use Rattle.cyc_net.proofs.net.Net.zero.Goals as goal
 
