@@ -1,0 +1,5 @@
+pub mod ScanLaws
+pub mod NameLaws
+pub mod ReadLaws
+pub mod WireLaws
+pub mod TableLaws

@@ -1,0 +1,10 @@
+pub mod Pieces
+pub mod Words
+pub mod Names
+pub mod Reserved
+pub mod Modules
+pub mod Seen
+pub mod Wires
+pub mod SeenWires
+pub mod Table
+pub mod SeenTable

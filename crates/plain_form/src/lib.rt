@@ -1,0 +1,18 @@
+//! The plain form of sources and tables.
+#![tactic(auto)]
+
+mod cut;
+mod lexical;
+mod modules;
+mod name_form;
+mod names;
+mod reserved;
+mod table;
+mod wires;
+
+pub use cut::pieces;
+pub use lexical::words;
+pub use modules::{Assign, Module, Port, Right, read_module};
+pub use names::Names;
+pub use table::{Line, read_rows};
+pub use wires::{Driver, Slot, Wires, read_wires};
