@@ -2,7 +2,8 @@
 use Rattle.std.specs.Prelude.{List, [], ◌∷◌, ◌++◌, ℕ, Bool, false, not, ◌&&◌, if◌then◌else◌, Option, Some, None, is_none, position, slice_get, slice_set}
 use Rattle.std.specs.List.{list_any}
 use Rattle.std.specs.Str.{bytes_eq}
-use Rattle.plain_form.specs.Modules.{Text, Port, Right, wire, fixed, Assign, Module}
+use Rattle.plain_form.specs.Modules.{Text, Port, Right, wire, fixed, Assign, Module, module_of}
+use Rattle.plain_form.specs.Words.{words}
 use Rattle.plain_form.specs.declared.wires.Driver.{Driver}
 use Rattle.plain_form.specs.declared.wires.Driver.TheVariants as driver
 use Rattle.plain_form.specs.declared.wires.Slot.{Slot}
@@ -75,3 +76,11 @@ all_ports w (p ∷ ps) = if list_any (bytes_eq p.name) w.names then None else al
 -- the wires of a module of this name
 abbrev pub wires_of : Text → Module → Option Wires
 wires_of top m = if bytes_eq m.name top then then_all (all_ports (record { names = []; slots = [] }) m.ports) (λ w. all_driven w m.assigns) else None
+
+abbrev pub wires_in : Text → Option Module → Option Wires
+wires_in top None = None
+wires_in top (Some m) = wires_of top m
+
+-- the wires of a plain source whose module has this name
+abbrev pub source_of : Text → Text → Option Wires
+source_of top text = wires_in top (module_of (words text))

@@ -15,4 +15,4 @@ pub use lexical::words;
 pub use modules::{Assign, Module, Port, Right, read_module};
 pub use names::Names;
 pub use table::{Line, read_rows};
-pub use wires::{Driver, Slot, Wires, read_wires};
+pub use wires::{Driver, Slot, Wires, read_source, read_wires};

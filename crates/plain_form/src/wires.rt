@@ -6,7 +6,8 @@ ghost use Rattle.plain_form.specs.Seen.{seen_port, seen_right, seen_assign, seen
 ghost use Rattle.plain_form.specs.SeenWires.{seen_wires};
 ghost use Rattle.plain_form.specs.Wires as spec;
 
-use crate::modules::{Assign, Module, Port, Right};
+use crate::lexical::words;
+use crate::modules::{Assign, Module, Port, Right, read_module};
 use crate::names::Names;
 use bits_core::NoMemory;
 use std::alloc::Global;
@@ -152,4 +153,19 @@ pub fn read_wires<'f>(
         return Ok(None);
     }
     Ok(Some(wires))
+}
+
+/// The wires of a source, or none where it is not plain or its module has another name. Linear in the source.
+pub fn read_source<'f>(
+    alloc: Global,
+    top: &[u8],
+    text: &'f [u8],
+) -> Result<Option<Wires<'f>>, NoMemory>
+    ensures { IfOk result (λ r. option_map seen_wires r ≡ spec.source_of top.now text.entry.now) }
+{
+    let words = words(alloc, text)?;
+    match read_module(alloc, words.as_slice())? {
+        Some(source) => read_wires(alloc, &source, top),
+        None => Ok(None),
+    }
 }

@@ -1,0 +1,5 @@
+pub mod CellLaws
+pub mod EndLaws
+pub mod LeafLaws
+pub mod RowLaws
+pub mod SoundLaws

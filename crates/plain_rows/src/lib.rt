@@ -1,0 +1,6 @@
+//! The rows of a plain table over a plain module, decided by the ends of their wires.
+#![tactic(auto)]
+
+mod decide;
+
+pub use decide::{Verdict, decide_row};
