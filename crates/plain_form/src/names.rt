@@ -1,5 +1,5 @@
 // Names with their places.
-ghost use Rattle.std.specs.Prelude.{◌≡◌, ◌++◌, ◌∷◌, [], true, false, not, map, length, position, IfOk};
+ghost use Rattle.std.specs.Prelude.{◌≡◌, ◌++◌, ◌∷◌, [], true, false, not, map, length, position, slice_index_or, IfOk};
 ghost use Rattle.std.specs.List.{list_any};
 ghost use Rattle.std.specs.Str.{bytes_eq};
 ghost use Rattle.plain_form.specs.Names.{listed};
@@ -40,6 +40,17 @@ impl<'f> Names<'f> {
         self.set.get_index_of(name)
     }
 
+    /// The name at a place; the empty name past the last.
+    pub fn name(&self, at: usize) -> &[u8]
+        ensures { result.now ≡ slice_index_or (listed self.now) at [] }
+    {
+        match self.set.get_index(at) {
+            Some(name) => name,
+            None => b"",
+        }
+    }
+
+    /// How many names there are.
     pub fn len(&self) -> usize
         ensures { result ≡ length (listed self.now) }
     {

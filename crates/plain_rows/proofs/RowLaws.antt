@@ -12,7 +12,7 @@ use Rattle.plain_form.specs.Table as table
 use Rattle.plain_form.specs.declared.wires.Driver.{Driver}
 use Rattle.plain_form.specs.declared.wires.Driver.TheVariants.{Port, Fixed}
 use Rattle.plain_form.specs.declared.wires.Slot.{Slot}
-use Rattle.plain_rows.specs.Plain.{IsRightHere, IsSound, bits, cells, driver_at, end_of, is_same, one_of, ones, or_itself, row_of}
+use Rattle.plain_rows.specs.Plain.{IsRightHere, IsSound, bits, cells, driver_at, end_of, is_same, one_of, ones, or_itself, row_of, verdict_of}
 use Rattle.plain_rows.specs.Verdicts.{IsFirstRun, is_leaf, named, ones_of, proved, refuted}
 use Rattle.plain_rows.proofs.CellLaws.{cell, given, both_true, drives_own, drives_is, either, filtered, in_items, kept, or_cases, or_left, or_right, reads_is, reads_own, same, same_self, some_reads}
 use Rattle.plain_rows.proofs.EndLaws.{driver_in_cells, free_undriven, made, made_end, made_holds, settled_end, undriven_free, worth}
@@ -361,3 +361,12 @@ module _ (slots : List Slot) (r : table.Row) where
         -- two different values stand at the ends
         pub row_refuted : IsRightHere slots r (refuted 0 (ones one))
         row_refuted = record { right = (λ valid. valid can_window, (omega arith, omega arith, can_run, λ u le lt. absurd (omega arith)), first_run) }
+
+verdict_at : (slots : List Slot) (r : table.Row) → IsSound slots → r.source < length slots → r.dest < length slots → (b : Bool) → is_same (end_of slots r.source) (end_of slots r.dest) ≡ b
+    → IsRightHere slots r (if b then proved else refuted 0 (ones (one_of (end_of slots r.source) (end_of slots r.dest))))
+verdict_at slots r sound s d true e = row_proved slots r (ends_same (end_of slots r.source) (end_of slots r.dest) e)
+verdict_at slots r sound s d false e = row_refuted slots r sound s d e
+
+-- the verdict by the ends is right
+pub verdict_right : (slots : List Slot) (r : table.Row) → IsSound slots → r.source < length slots → r.dest < length slots → IsRightHere slots r (verdict_of slots r)
+verdict_right slots r sound s d = verdict_at slots r sound s d (is_same (end_of slots r.source) (end_of slots r.dest)) refl

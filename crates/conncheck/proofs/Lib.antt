@@ -1,0 +1,4 @@
+pub mod PrintLaws
+pub mod ReportLaws
+pub mod JudgeLaws
+pub mod AllowsLaws

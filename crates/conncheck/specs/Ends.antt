@@ -1,0 +1,57 @@
+-- How the inner calls end.
+use Rattle.std.specs.Prelude.{ℕ, [], ⊤, Option, Result, Ok, Err, ◌≡◌, ◌≤◌}
+use Rattle.std.specs.Io.KnownBytes.{Appends}
+use Rattle.shelf_io.specs.Cause.{Rose}
+use Rattle.shelf_io.specs.Files.{Files}
+use Rattle.shelf_io.specs.Sink.{AppendsPart}
+use Rattle.conncheck.specs.Answers.{Allows, AppendsPieces}
+use Rattle.conncheck.specs.Causes.{WriteFaultCause}
+use Rattle.conncheck.specs.Command.{Text, Command}
+use Rattle.conncheck.specs.Outcome.{Outcome, pieces_of, status_of, text_of}
+use Rattle.conncheck.specs.declared.status.Status.{Status}
+use Rattle.conncheck.specs.declared.status.Status.TheVariants.{ReadFault, BadWords}
+use Rattle.conncheck.specs.declared.status.Stop.{Stop}
+use Rattle.conncheck.specs.declared.status.Stop.TheVariants.{Write, Memory}
+
+-- the whole text with its status, a part of it, or some first pieces
+abbrev pub Ends : Outcome → Option Text → Option Text → Result Status Stop → Type 0
+Ends o old new (Ok s) = (s ≡ status_of o) × Appends old new (text_of o)
+Ends o old new (Err Write) = AppendsPart old new (text_of o)
+Ends o old new (Err Memory) = AppendsPieces old new (pieces_of o)
+
+-- one piece more, a part of it, or nothing
+abbrev pub Adds : {T : Type 0} → Text → Option Text → Option Text → Result T Stop → Type 0
+Adds piece old new (Ok _) = Appends old new piece
+Adds piece old new (Err Write) = AppendsPart old new piece
+Adds piece old new (Err Memory) = Appends old new []
+
+abbrev pub SinkCause : ℕ → ℕ → Result Status Stop → Type 0
+SinkCause before now (Ok s) = WriteFaultCause before now s
+SinkCause before now (Err Write) = Rose before now
+SinkCause before now (Err Memory) = now ≡ before
+
+abbrev pub PieceCause : {T : Type 0} → ℕ → ℕ → Result T Stop → Type 0
+PieceCause before now (Ok _) = now ≡ before
+PieceCause before now (Err Write) = Rose before now
+PieceCause before now (Err Memory) = now ≡ before
+
+abbrev pub ShelfCause : ℕ → ℕ → Result Status Stop → Type 0
+ShelfCause before now (Ok ReadFault) = Rose before now
+ShelfCause before now (Ok _) = now ≡ before
+ShelfCause before now (Err _) = before ≤ now
+
+abbrev pub IsNoBadWords : Result Status Stop → Type 0
+IsNoBadWords (Ok BadWords) = ⊥
+IsNoBadWords _ = ⊤
+
+-- what a check answers once its files are read
+abbrev pub IsOfBytes : Result Status Stop → Type 0
+IsOfBytes (Ok BadWords) = ⊥
+IsOfBytes (Ok ReadFault) = ⊥
+IsOfBytes _ = ⊤
+
+-- the same with an outcome that the files allow
+pub record EndsFor (steady : Type 0) (command : Option Command) (files : Files) (old new : Option Text) (r : Result Status Stop) : Type 0 where
+  pub outcome : Outcome
+  pub allowed : Allows steady command files outcome
+  pub ended : Ends outcome old new r

@@ -1,0 +1,9 @@
+pub mod Command
+pub mod Words
+pub mod Causes
+pub mod Texts
+pub mod Outcome
+pub mod Answers
+pub mod Ends
+pub mod Judge
+pub mod Judged

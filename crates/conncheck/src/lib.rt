@@ -1,0 +1,15 @@
+//! The top call: what the program does with the words of its command line, a shelf of files and a sink.
+#![tactic(auto)]
+
+mod report;
+mod status;
+mod text;
+mod top;
+mod words;
+
+pub use status::Status;
+pub use top::run;
+
+
+#[cfg(test)]
+mod tests;

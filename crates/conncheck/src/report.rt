@@ -1,0 +1,108 @@
+// What is printed.
+ghost use Rattle.std.specs.Prelude.{map};
+ghost use Rattle.conncheck.specs.Ends.{Adds, Ends, IsOfBytes, PieceCause, SinkCause};
+ghost use Rattle.conncheck.specs.Outcome.{bad_words, missing, not_yet, report, too_long};
+ghost use Rattle.conncheck.specs.Judge.{judge};
+ghost use Rattle.conncheck.specs.Texts.{judged_text, total_of, verdict_text};
+ghost use Rattle.plain_form.specs.Names.{listed};
+ghost use Rattle.plain_form.specs.SeenTable.{seen_row};
+ghost use Rattle.plain_rows.specs.Seen.{seen_verdict};
+
+use crate::status::{Status, Stop};
+use crate::text::{line, row_text, total_text};
+use plain_form::{Line, Names, Wires};
+use plain_rows::{Verdict, decide_row};
+use shelf_io::Sink;
+use std::alloc::Global;
+
+pub fn say_bad_words<K: Sink>(out: &mut K) -> Result<Status, Stop>
+    ensures printed { Ends bad_words (K.taken out.old) (K.taken out.new) result }
+    ensures cause { SinkCause (K.faults out.old) (K.faults out.new) result }
+{
+    out.write_all(b"BADWORDS\n")?;
+    Ok(Status::BadWords)
+}
+
+pub fn say_missing<K: Sink>(alloc: Global, name: &str, out: &mut K) -> Result<Status, Stop>
+    ensures printed { Ends (missing name.now) (K.taken out.old) (K.taken out.new) result }
+    ensures cause { SinkCause (K.faults out.old) (K.faults out.new) result }
+{
+    let text = line(alloc, b"READFAULT ", name.as_bytes())?;
+    out.write_all(text.as_slice())?;
+    Ok(Status::ReadFault)
+}
+
+pub fn say_too_long<K: Sink>(out: &mut K) -> Result<Status, Stop>
+    ensures printed { Ends too_long (K.taken out.old) (K.taken out.new) result }
+    ensures cause { SinkCause (K.faults out.old) (K.faults out.new) result }
+{
+    out.write_all(b"LIMIT L01 FileBytes 16777216\n")?;
+    Ok(Status::Limit)
+}
+
+pub fn say_not_yet<K: Sink>(alloc: Global, name: &str, out: &mut K) -> Result<Status, Stop>
+    ensures printed { Ends (not_yet name.now) (K.taken out.old) (K.taken out.new) result }
+    ensures kind { IsOfBytes result }
+    ensures cause { SinkCause (K.faults out.old) (K.faults out.new) result }
+{
+    let text = line(alloc, b"REFUSED E00 NotYet\nAT ", name.as_bytes())?;
+    out.write_all(text.as_slice())?;
+    Ok(Status::Refused)
+}
+
+fn say_row<K: Sink>(
+    alloc: Global,
+    top: &[u8],
+    names: &Names<'_>,
+    row: Line<'_>,
+    verdict: Verdict,
+    out: &mut K,
+) -> Result<(), Stop>
+    ensures printed { Adds (verdict_text top.now (listed names.now) (seen_row row.entry).name (seen_verdict verdict)) (K.taken out.old) (K.taken out.new) result }
+    ensures cause { PieceCause (K.faults out.old) (K.faults out.new) result }
+{
+    let text = row_text(alloc, top, names, row, verdict)?;
+    out.write_all(text.as_slice())?;
+    Ok(())
+}
+
+fn say_total<K: Sink>(
+    alloc: Global,
+    rows: usize,
+    proved: usize,
+    refuted: usize,
+    out: &mut K,
+) -> Result<(), Stop>
+    ensures printed { Adds (total_of rows proved refuted) (K.taken out.old) (K.taken out.new) result }
+    ensures cause { PieceCause (K.faults out.old) (K.faults out.new) result }
+{
+    let text = total_text(alloc, rows, proved, refuted)?;
+    out.write_all(text.as_slice())?;
+    Ok(())
+}
+
+/// A text for each row, as soon as it is decided, and then the total. Linear in the rows.
+pub fn say_report<K: Sink>(
+    alloc: Global,
+    top: &[u8],
+    wires: &Wires<'_>,
+    rows: &[Line<'_>],
+    out: &mut K,
+) -> Result<Status, Stop>
+    ensures printed { Ends (report top.now (listed wires.now.names) (map (judge wires.now.slots.items) (map seen_row rows.now))) (K.taken out.old) (K.taken out.new) result }
+    ensures kind { IsOfBytes result }
+    ensures cause { SinkCause (K.faults out.old) (K.faults out.new) result }
+{
+    let mut proved = 0usize;
+    let mut refuted = 0usize;
+    for row in rows {
+        let verdict = decide_row(wires.slots.as_slice(), *row);
+        say_row(alloc, top, &wires.names, *row, verdict, out)?;
+        match verdict {
+            Verdict::Proved => proved += 1,
+            Verdict::Refuted(_) => refuted += 1,
+        }
+    }
+    say_total(alloc, rows.len(), proved, refuted, out)?;
+    Ok(if refuted == 0 { Status::Done } else { Status::Findings })
+}
