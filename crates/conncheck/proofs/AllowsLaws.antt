@@ -1,12 +1,12 @@
 -- The outcome by what the reads gave.
-use Rattle.std.proofs.Common.{rules, subst, ◌≡◌, ◌≤◌, ◌<◌, ◌⊎◌, ◌∙◌, ℕ, Bool, true, false, List, length, Option, Some, None, IfSome, refl, sym, ap, inl, inr, arith, cond, nat_lt, if◌then◌else◌}
+use Rattle.std.proofs.Common.{rules, subst, ◌≡◌, ◌≤◌, ◌<◌, ◌∙◌, ℕ, Bool, true, false, length, Option, Some, None, IfSome, refl, sym, ap, inl, inr, nat_lt, if◌then◌else◌}
 use Rattle.std.specs.Str.{bytes_eq}
 use Rattle.shelf_io.specs.Files.{Files}
 use Rattle.shelf_io.specs.Shelf.{IsLonger}
 use Rattle.plain_form.specs.Wires.{source_of}
-use Rattle.conncheck.specs.Answers.{Allows, FailsAt, without}
-use Rattle.conncheck.specs.Command.{Text, Check, Command, check}
-use Rattle.conncheck.specs.Outcome.{IsOutcome, OfCheck, OfFile, OfLength, OfSource, Outcome, missing, most, too_long}
+use Rattle.conncheck.specs.Answers.{Allows, without}
+use Rattle.conncheck.specs.Command.{Text, Check, check}
+use Rattle.conncheck.specs.Outcome.{IsOutcome, OfFile, OfLength, OfSource, Outcome, missing, most, too_long}
 use Rattle.conncheck.proofs.JudgeLaws.{some_outcome}
 
 pub told : {A : Type 0} (o : Option A) (P : A → Type 0) → ((x : A) → o ≡ Some x → P x) → IfSome o P
@@ -74,8 +74,14 @@ module _ (c : Check) (files : Files) where
     where
       at : (f : Option Text) → files c.table ≡ f → Allows steady (Some (check c)) files (missing c.table)
       at None e = inl (gone_file c.table (λ t. OfFile c.file (λ s. OfSource c t (source_of c.top s)) (files c.file)) (files c.table) e)
-      at (Some t) e = inr ((λ s. cc (sym e ∙ gone s)), record { name = c.table; is = refl;
-          as_if_absent = gone_file c.table (λ u. OfFile c.file (λ s. OfSource c u (source_of c.top s)) (without c.table files c.file)) (without c.table files c.table) (absent files c.table) })
+      at (Some t) e = inr (
+        (λ s. cc (sym e ∙ gone s)),
+        record {
+          name = c.table;
+          is = refl;
+          as_if_absent = gone_file c.table (λ u. OfFile c.file (λ s. OfSource c u (source_of c.top s)) (without c.table files c.file)) (without c.table files c.table) (absent files c.table);
+        },
+      )
 
   -- with the second file away, the first is as it was, or it is the one that is away
   hidden : (table : Text) → files c.table ≡ Some table → length table ≤ most → IsOutcome (Some (check c)) (without c.file files) (missing c.file)

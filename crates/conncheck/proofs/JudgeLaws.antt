@@ -1,10 +1,10 @@
 -- What a check comes to, by the bytes of its files.
-use Rattle.std.proofs.Common.{◌≡◌, ◌∙◌, ◌<◌, ℕ, Bool, List, [], ◌∷◌, Option, Some, None, map, length, refl, sym, ap, subst, inl, inr}
+use Rattle.std.proofs.Common.{◌≡◌, ℕ, List, [], ◌∷◌, Option, Some, None, map, refl, sym, ap, subst, inl, inr}
 use Rattle.design_core.specs.Cells.{In}
 use Rattle.plain_form.specs.Table.{Row, rows_of}
 use Rattle.plain_form.specs.Wires.{Wires, source_of}
 use Rattle.plain_form.specs.declared.wires.Slot.{Slot}
-use Rattle.plain_rows.specs.Plain.{IsRightHere, verdict_of}
+use Rattle.plain_rows.specs.Plain.{IsRightHere}
 use Rattle.plain_rows.proofs.RowLaws.{verdict_right}
 use Rattle.plain_rows.proofs.SoundLaws.{AreIn, rows_in, source_even, source_sound}
 use Rattle.conncheck.specs.Command.{Text, Check}

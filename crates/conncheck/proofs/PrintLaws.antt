@@ -1,10 +1,9 @@
 -- Lines go out one after the other.
-use Rattle.std.proofs.Common.{suc, ◌≡◌, ◌<◌, ◌≤◌, ◌+◌, ◌++◌, ◌∙◌, ℕ, Bool, List, [], ◌∷◌, length, take, drop, map, get_or, Option, Some, None, Result, Ok, Err, subst, refl, sym, ap, arith, append_assoc, add-one, drop-cons}
-use Rattle.std.proofs.lemmas.List.{append-nil, drop_all, map-append, take-append-drop, take_all}
+use Rattle.std.proofs.Common.{◌≡◌, ◌<◌, ◌+◌, ◌++◌, ◌∙◌, ℕ, List, [], ◌∷◌, length, take, drop, map, get_or, Option, Some, None, Err, subst, refl, sym, ap, append_assoc, add-one, drop-cons}
+use Rattle.std.proofs.lemmas.List.{append-nil, map-append, take-append-drop}
 use Rattle.std.proofs.lemmas.Grind.{flat_map-append}
 use Rattle.std.specs.Io.KnownBytes.{Appends}
 use Rattle.shelf_io.specs.Sink.{AppendsPart}
-use Rattle.conncheck.specs.Answers.{AppendsPieces}
 use Rattle.conncheck.specs.Ends.{Adds, Ends}
 use Rattle.conncheck.specs.Command.{Text}
 use Rattle.conncheck.specs.Outcome.{Outcome, joined, pieces_of, text_of}

@@ -1,5 +1,5 @@
 -- What a call answers and prints.
-use Rattle.std.specs.Prelude.{List, [], ◌∷◌, ◌++◌, ℕ, Bool, Option, Some, None, ◌≡◌, ◌⊎◌, if◌then◌else◌}
+use Rattle.std.specs.Prelude.{List, ◌++◌, Option, None, ◌≡◌, ◌⊎◌, if◌then◌else◌}
 use Rattle.std.specs.Str.{bytes_eq}
 use Rattle.std.specs.Io.KnownBytes.{Appends}
 use Rattle.shelf_io.specs.Files.{Files}
@@ -7,7 +7,7 @@ use Rattle.shelf_io.specs.Sink.{AppendsPart}
 use Rattle.conncheck.specs.Command.{Text, Command}
 use Rattle.conncheck.specs.Outcome.{Outcome, IsOutcome, joined, missing, pieces_of, status_of, text_of}
 use Rattle.conncheck.specs.declared.status.Status.{Status}
-use Rattle.conncheck.specs.declared.status.Status.TheVariants.{Done, Findings, BadWords, Refused, ReadFault, WriteFault, NoMemory, Limit}
+use Rattle.conncheck.specs.declared.status.Status.TheVariants.{WriteFault, NoMemory}
 
 -- the whole of some first pieces follows the bytes taken
 pub record AppendsPieces (old new : Option Text) (pieces : List Text) : Type 0 where

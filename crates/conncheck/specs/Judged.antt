@@ -1,5 +1,5 @@
 -- How a check ends once its files are read.
-use Rattle.std.specs.Prelude.{◌≡◌, Option, Result}
+use Rattle.std.specs.Prelude.{Option, Result}
 use Rattle.plain_form.specs.Wires.{source_of}
 use Rattle.conncheck.specs.Command.{Text, Check}
 use Rattle.conncheck.specs.Ends.{Ends}

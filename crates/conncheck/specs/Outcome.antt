@@ -1,5 +1,5 @@
 -- What a call comes to, by its words and files.
-use Rattle.std.specs.Prelude.{◌≡◌, List, [], ◌∷◌, ◌++◌, ℕ, ◌<◌, Bool, true, false, Option, Some, None, if◌then◌else◌, nat_lt, codes, map, length, flat_map}
+use Rattle.std.specs.Prelude.{◌≡◌, List, [], ◌∷◌, ◌++◌, ℕ, Bool, true, false, Option, Some, None, if◌then◌else◌, nat_lt, codes, map, length, flat_map}
 use Rattle.std.specs.List.{list_all}
 use Rattle.design_core.specs.Cells.{In}
 use Rattle.shelf_io.specs.Files.{Files}

@@ -1,5 +1,5 @@
 -- The printed texts, each of whole lines.
-use Rattle.std.specs.Prelude.{List, [], ◌∷◌, ◌++◌, ℕ, Bool, true, false, not, codes, decimal, map, length, count_by, flat_map, slice_index_or}
+use Rattle.std.specs.Prelude.{List, [], ◌++◌, ℕ, Bool, true, false, not, codes, decimal, length, count_by, flat_map, slice_index_or}
 use Rattle.design_core.specs.declared.place.BitRef.{BitRef}
 use Rattle.plain_form.specs.Table.{Row}
 use Rattle.plain_rows.specs.Verdicts.{Verdict, proved, refuted}

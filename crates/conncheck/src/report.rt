@@ -104,5 +104,9 @@ pub fn say_report<K: Sink>(
         }
     }
     say_total(alloc, rows.len(), proved, refuted, out)?;
-    Ok(if refuted == 0 { Status::Done } else { Status::Findings })
+    Ok(if refuted == 0 {
+        Status::Done
+    } else {
+        Status::Findings
+    })
 }

@@ -54,7 +54,7 @@ fn input_line(
     names: &Names<'_>,
     port: usize,
 ) -> Result<Vec<u8>, NoMemory>
-    ensures { IfOk result (λ v. v.items ≡ spec.input_line top.now (listed names.now) (0 , bit port 0)) }
+    ensures { IfOk result (λ v. v.items ≡ spec.input_line top.now (listed names.now) (0, bit port 0)) }
 {
     let mut buffer = Buffer::new();
     let mut made = Vec::from_slice(alloc, b"  input ")?;

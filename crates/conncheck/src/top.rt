@@ -69,12 +69,7 @@ fn answer_check<H: Shelf, K: Sink>(
 
 /// Does what the words ask: reads files from the shelf, writes texts to the sink, each in one piece, and answers how it ended.
 /// `check --top M --table F FILE` decides each row of the table F over the module M of the source FILE.
-pub fn run<H: Shelf, K: Sink>(
-    alloc: Global,
-    words: &[String],
-    shelf: &mut H,
-    out: &mut K,
-) -> Status
+pub fn run<H: Shelf, K: Sink>(alloc: Global, words: &[String], shelf: &mut H, out: &mut K) -> Status
     ensures words { BadWordsCause (command (map string_bytes words.now)) result }
     ensures shelf { ReadFaultCause (H.faults shelf.old) (H.faults shelf.new) result }
     ensures sink { WriteFaultCause (K.faults out.old) (K.faults out.new) result }

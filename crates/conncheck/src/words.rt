@@ -38,9 +38,17 @@ fn check_of<'w>(
     ensures { option_map seen_command result ≡ spec.check_of first.now one.entry.now second.now two.entry.now file.entry.now }
 {
     if first == "--top" && second == "--table" {
-        Some(Command::Check(Check { top: one, table: two, file }))
+        Some(Command::Check(Check {
+            top: one,
+            table: two,
+            file,
+        }))
     } else if first == "--table" && second == "--top" {
-        Some(Command::Check(Check { top: two, table: one, file }))
+        Some(Command::Check(Check {
+            top: two,
+            table: one,
+            file,
+        }))
     } else {
         None
     }

@@ -1,14 +1,14 @@
 -- The assigns of one bit as cells.
-use Rattle.std.proofs.Common.{rules, ◌≡◌, ◌∙◌, ◌+◌, ◌<◌, ℕ, zero, suc, Bool, true, false, not, ◌&&◌, ◌||◌, ◌==◌, List, [], ◌∷◌, cond, Option, Some, None, map, slice_get, refl, sym, ap, ap₂, subst, arith, inl, inr, ◌⊎◌}
+use Rattle.std.proofs.Common.{rules, ◌≡◌, ◌∙◌, ◌+◌, ℕ, zero, suc, Bool, true, false, not, ◌&&◌, ◌||◌, ◌==◌, List, [], ◌∷◌, cond, Option, Some, None, map, refl, sym, ap, ap₂, subst, arith, inl, inr, ◌⊎◌}
 use Rattle.std.specs.List.{filter}
 use Rattle.design_core.specs.declared.place.BitRef.{BitRef}
-use Rattle.design_core.specs.Core.{bit, same_bit}
-use Rattle.design_core.specs.Cells.{Bitmap, Cell, In, driven, read_by, Holds}
+use Rattle.design_core.specs.Core.{bit}
+use Rattle.design_core.specs.Cells.{Bitmap, Cell, In, driven, read_by}
 use Rattle.design_core.specs.Items.{CoreItem, cell_of}
 use Rattle.plain_form.specs.declared.wires.Driver.{Driver}
 use Rattle.plain_form.specs.declared.wires.Driver.TheVariants.{Port, Fixed}
 use Rattle.plain_form.specs.declared.wires.Slot.{Slot}
-use Rattle.plain_rows.specs.Plain.{and_item, cells, driver_at, end_of, item, items_from, or_itself}
+use Rattle.plain_rows.specs.Plain.{and_item, driver_at, item, items_from}
 
 abbrev pub cell : ℕ → Driver → Cell BitRef
 cell i d = cell_of (item i d)
@@ -65,7 +65,7 @@ pub reads_is : (i : ℕ) (d : Driver) (b : BitRef) → ((cell i d).reads b || ((
 reads_is i (Fixed v) b e = cc
 reads_is i (Port k) b e =
     let r : ((b.signal == k) && ((b.bit == 0) || false)) ≡ true =
-        elim (or_cases (((b.signal == k) && ((b.bit == 0) || false)) || false) false e) [ inl t ↦ elim (or_cases ((b.signal == k) && ((b.bit == 0) || false)) false t) [ inl u ↦ u | inr f ↦ cc ] | inr f ↦ cc ] in
+    elim (or_cases (((b.signal == k) && ((b.bit == 0) || false)) || false) false e) [ inl t ↦ elim (or_cases ((b.signal == k) && ((b.bit == 0) || false)) false t) [ inl u ↦ u | inr f ↦ cc ] | inr f ↦ cc ] in
     let h = both_true (b.signal == k) ((b.bit == 0) || false) r in
     let s : b.signal ≡ k = same b.signal k h.0 in
     let z : b.bit ≡ 0 = elim (or_cases (b.bit == 0) false h.1) [ inl t ↦ same b.bit 0 t | inr f ↦ cc ] in

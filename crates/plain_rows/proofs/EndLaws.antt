@@ -1,5 +1,5 @@
 -- In a settled cycle each port has the value that stands at its other end; and each choice of values for the free ports is settled.
-use Rattle.std.proofs.Common.{◌≡◌, ◌∙◌, ◌+◌, ◌<◌, ℕ, Bool, true, false, not, ◌&&◌, ◌||◌, ◌==◌, if◌then◌else◌, List, [], ◌∷◌, Option, Some, None, map, length, refl, sym, ap, subst, arith, inl, inr, ◌⊎◌}
+use Rattle.std.proofs.Common.{◌≡◌, ◌∙◌, ◌+◌, ℕ, Bool, true, false, ◌==◌, if◌then◌else◌, List, Option, Some, None, refl, sym, ap, subst, arith}
 use Rattle.design_core.specs.declared.place.BitRef.{BitRef}
 use Rattle.design_core.specs.Core.{bit}
 use Rattle.design_core.specs.Cells.{Bitmap, Cell, In, driven, Holds}
@@ -7,7 +7,7 @@ use Rattle.plain_form.specs.declared.wires.Driver.{Driver}
 use Rattle.plain_form.specs.declared.wires.Driver.TheVariants.{Port, Fixed}
 use Rattle.plain_form.specs.declared.wires.Slot.{Slot}
 use Rattle.plain_rows.specs.Plain.{IsSound, cells, driver_at, end_of, or_itself}
-use Rattle.plain_rows.proofs.CellLaws.{cell, given, either, drives_own, drives_is, within_own, in_items, in_cells, none_drives, some_drives}
+use Rattle.plain_rows.proofs.CellLaws.{cell, given, drives_own, drives_is, within_own, in_items, in_cells, none_drives, some_drives}
 
 -- what a driver gives where the free ports have these values
 abbrev pub worth : (ℕ → Bool) → Driver → Bool
@@ -48,11 +48,13 @@ module _ (slots : List Slot) where
         let z : 0 + a.at ≡ a.at = omega arith in
         let is : c ≡ cell a.at a.driver = a.is_it ∙ ap (λ n. cell n a.driver) z in
         let own : made τ (bit a.at 0) ≡ (cell a.at a.driver).within s (made τ) (bit a.at 0) =
-            made_end τ a.at (Some a.driver) a.drives_it ∙ sym (given_made τ a.at a.driver a.drives_it) ∙ sym (within_own a.at a.driver s (made τ)) in
+        made_end τ a.at (Some a.driver) a.drives_it ∙ sym (given_made τ a.at a.driver a.drives_it) ∙ sym (within_own a.at a.driver s (made τ)) in
         let P : Cell BitRef → Type 0 = λ x. Holds x s (made τ) in
-        subst P (sym is) (record { gives = λ b e.
-            let Q : BitRef → Type 0 = λ y. made τ y ≡ (cell a.at a.driver).within s (made τ) y in
-            subst Q (sym (drives_is a.at a.driver b e)) own })
+        subst P (sym is) (record {
+          gives = λ b e.
+              let Q : BitRef → Type 0 = λ y. made τ y ≡ (cell a.at a.driver).within s (made τ) y in
+              subst Q (sym (drives_is a.at a.driver b e)) own;
+        })
 
   pub free_undriven : (k : ℕ) → driver_at slots k ≡ None → driven (cells slots) (bit k 0) ≡ false
   free_undriven k e = none_drives (cells slots) (bit k 0) (λ c h t.

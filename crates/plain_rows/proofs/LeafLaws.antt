@@ -1,7 +1,7 @@
 -- The leaves of a row, as the places of free ports in order.
-use Rattle.std.proofs.Common.{suc, zero, ◌≡◌, ◌∙◌, ◌+◌, ◌<◌, ◌≤◌, ℕ, Bool, true, false, not, ◌&&◌, ◌||◌, ◌==◌, if◌then◌else◌, cond, List, [], ◌∷◌, ◌++◌, Option, Some, None, map, length, refl, sym, ap, ap₂, subst, arith, inl, inr, ◌⊎◌}
+use Rattle.std.proofs.Common.{suc, zero, ◌≡◌, ◌∙◌, ◌+◌, ◌<◌, ◌≤◌, ℕ, Bool, true, false, ◌==◌, cond, List, [], ◌∷◌, ◌++◌, map, refl, sym, ap, arith, inl, inr}
 use Rattle.std.proofs.lemmas.List.{append-nil}
-use Rattle.std.specs.List.{filter, range_with_len, flat_map}
+use Rattle.std.specs.List.{filter, range_with_len}
 use Rattle.design_core.specs.declared.place.BitRef.{BitRef}
 use Rattle.design_core.specs.Core.{bit}
 use Rattle.design_core.specs.Cells.{Bitmap, In}
@@ -66,13 +66,16 @@ module _ (P f g : ℕ → Bool) where
   before a i zero le lt pa fa ga h = absurd (omega arith)
   before a i (suc n) le lt pa fa ga h =
       elim (either (a == i)) [
-        inl t ↦ here (same a i t)
-        | inr d ↦ at (P i) (f i) (g i) refl refl refl (before a (i + 1) n (later d) (omega arith) pa fa ga h) ]
+        | inl t ↦ here (same a i t)
+        | inr d ↦ at (P i) (f i) (g i) refl refl refl (before a (i + 1) n (later d) (omega arith) pa fa ga h)
+      ]
     where
       later : (a == i) ≡ false → i + 1 ≤ a
       later d = let ne : a ≡ i → ⊥ = λ e. let w : true ≡ false = sym (same_self i) ∙ ap (λ x. x == i) (sym e) ∙ d in cc in omega arith
+
       here : a ≡ i → IsNoLater (map f (chosen P i (suc n))) (map g (chosen P i (suc n)))
       here e = let p : P i ≡ true = ap P (sym e) ∙ pa in let x : f i ≡ false = ap f (sym e) ∙ fa in let y : g i ≡ true = ap g (sym e) ∙ ga in rw (p, x, y) tt
+
       at : (p x y : Bool) → P i ≡ p → f i ≡ x → g i ≡ y → IsNoLater (map f (chosen P (i + 1) n)) (map g (chosen P (i + 1) n))
           → IsNoLater (map f (cond p (i ∷ chosen P (i + 1) n) (chosen P (i + 1) n))) (map g (cond p (i ∷ chosen P (i + 1) n) (chosen P (i + 1) n)))
       at false x y p e q r = r
@@ -90,26 +93,30 @@ module _ (P : ℕ → Bool) (σ : ℕ → Bitmap BitRef) where
       at true e r = let x : σ 0 (bit i 0) ≡ false = h i (omega arith) e in rw x r
 
   pub one_one : (m i n : ℕ) → i ≤ m → m < i + n → P m ≡ true → ((k : ℕ) → P k ≡ true → σ 0 (bit k 0) ≡ (k == m))
-      → ones_of σ (map leaf (chosen P i n)) ≡ (0 , bit m 0) ∷ []
+      → ones_of σ (map leaf (chosen P i n)) ≡ (0, bit m 0) ∷ []
   one_one m i zero le lt pm h = absurd (omega arith)
   one_one m i (suc n) le lt pm h =
       elim (either (i == m)) [
-        inl t ↦ here (same i m t) t
-        | inr d ↦ at (P i) refl d (one_one m (i + 1) n (later d) (omega arith) pm h) ]
+        | inl t ↦ here (same i m t) t
+        | inr d ↦ at (P i) refl d (one_one m (i + 1) n (later d) (omega arith) pm h)
+      ]
     where
       differs : (k : ℕ) → (k ≡ m → ⊥) → (b : Bool) → (k == m) ≡ b → b ≡ false
       differs k ne true t = absurd (ne (same k m t))
       differs k ne false t = refl
+
       later : (i == m) ≡ false → i + 1 ≤ m
       later d = let ne : i ≡ m → ⊥ = λ e. let w : true ≡ false = sym (same_self m) ∙ ap (λ x. x == m) (sym e) ∙ d in cc in omega arith
-      here : i ≡ m → (i == m) ≡ true → ones_of σ (map leaf (chosen P i (suc n))) ≡ (0 , bit m 0) ∷ []
+
+      here : i ≡ m → (i == m) ≡ true → ones_of σ (map leaf (chosen P i (suc n))) ≡ (0, bit m 0) ∷ []
       here e t =
           let p : P i ≡ true = ap P e ∙ pm in
           let x : σ 0 (bit i 0) ≡ true = h i p ∙ t in
           let rest : ones_of σ (map leaf (chosen P (i + 1) n)) ≡ [] = no_ones (i + 1) n (λ k le' pk. h k pk ∙ differs k (λ q. omega arith) (k == m) refl) in
-          rw (p, x, rest) (ap (λ (k : ℕ). (0 , bit k 0) ∷ []) e)
-      at : (p : Bool) → P i ≡ p → (i == m) ≡ false → ones_of σ (map leaf (chosen P (i + 1) n)) ≡ (0 , bit m 0) ∷ []
-          → ones_of σ (map leaf (cond p (i ∷ chosen P (i + 1) n) (chosen P (i + 1) n))) ≡ (0 , bit m 0) ∷ []
+          rw (p, x, rest) (ap (λ (k : ℕ). (0, bit k 0) ∷ []) e)
+
+      at : (p : Bool) → P i ≡ p → (i == m) ≡ false → ones_of σ (map leaf (chosen P (i + 1) n)) ≡ (0, bit m 0) ∷ []
+          → ones_of σ (map leaf (cond p (i ∷ chosen P (i + 1) n) (chosen P (i + 1) n))) ≡ (0, bit m 0) ∷ []
       at false e d r = r
       at true e d r = let x : σ 0 (bit i 0) ≡ false = h i e ∙ d in rw x r
 
@@ -117,13 +124,16 @@ pub in_leaves : (P : ℕ → Bool) (m i n : ℕ) → i ≤ m → m < i + n → P
 in_leaves P m i zero le lt pm = absurd (omega arith)
 in_leaves P m i (suc n) le lt pm =
     elim (either (i == m)) [
-      inl t ↦ here (same i m t)
-      | inr d ↦ at (P i) (in_leaves P m (i + 1) n (later d) (omega arith) pm) ]
+      | inl t ↦ here (same i m t)
+      | inr d ↦ at (P i) (in_leaves P m (i + 1) n (later d) (omega arith) pm)
+    ]
   where
     later : (i == m) ≡ false → i + 1 ≤ m
     later d = let ne : i ≡ m → ⊥ = λ e. let w : true ≡ false = sym (same_self m) ∙ ap (λ x. x == m) (sym e) ∙ d in cc in omega arith
+
     here : i ≡ m → In (leaf m) (map leaf (chosen P i (suc n)))
     here e = let p : P i ≡ true = ap P e ∙ pm in rw p (inl (ap leaf (sym e)))
+
     at : (p : Bool) → In (leaf m) (map leaf (chosen P (i + 1) n)) → In (leaf m) (map leaf (cond p (i ∷ chosen P (i + 1) n) (chosen P (i + 1) n)))
     at false r = r
     at true r = inr r

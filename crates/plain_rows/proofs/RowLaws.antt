@@ -1,12 +1,11 @@
 -- The verdicts on plain rows are right.
-use Rattle.std.proofs.Common.{suc, zero, ◌≡◌, ◌∙◌, ◌+◌, ◌<◌, ◌≤◌, ℕ, Bool, true, false, not, ◌&&◌, ◌||◌, ◌==◌, if◌then◌else◌, cond, nat_lt, List, [], ◌∷◌, ◌++◌, Option, Some, None, map, length, refl, sym, ap, ap₂, subst, arith, rules, inl, inr, ◌⊎◌}
-use Rattle.std.specs.List.{filter, range_with_len}
+use Rattle.std.proofs.Common.{◌≡◌, ◌∙◌, ◌+◌, ◌<◌, ◌≤◌, ℕ, Bool, true, false, not, ◌&&◌, ◌||◌, ◌==◌, if◌then◌else◌, nat_lt, List, [], Option, Some, None, map, length, refl, sym, ap, ap₂, subst, arith, rules, inl, inr, ◌⊎◌}
+use Rattle.std.specs.List.{filter}
 use Rattle.design_core.specs.declared.place.BitRef.{BitRef}
 use Rattle.design_core.specs.Core.{bit, same_bit}
 use Rattle.design_core.specs.Cells.{Bitmap, Cell, In, driven, read_by, cell_reads, Holds, IsTrace, IsSliceOf}
-use Rattle.design_core.specs.Rows as design
-use Rattle.design_core.specs.Rows.{Breaks, CanBreak, IsValid, row_bit}
-use Rattle.design_core.specs.Leaves.{Leaf, leaf_value, leaves_in_order, BreaksWith, IsFirstBreak, IsFirstTrace, IsNoLater, input}
+use Rattle.design_core.specs.Rows.{Breaks, CanBreak}
+use Rattle.design_core.specs.Leaves.{Leaf, leaf_value, leaves_in_order, IsFirstBreak, IsFirstTrace, IsNoLater, input}
 use Rattle.design_core.specs.Setups.{held_in_window, held_in_run, powered}
 use Rattle.plain_form.specs.Table as table
 use Rattle.plain_form.specs.declared.wires.Driver.{Driver}
@@ -51,6 +50,7 @@ ends_differ (Port a) (Port b) e = at (nat_lt a b)
   where
     flipped : (b == a) ≡ false
     flipped = other_false b a (λ q. let w : true ≡ false = sym (same_self a) ∙ ap (λ z. a == z) (sym q) ∙ e in cc)
+
     at : (t : Bool) → (b == (if t then b else a)) ≡ not (a == (if t then b else a))
     at true = rw (same_self b, e) refl
     at false = rw (same_self a, flipped) refl
@@ -72,9 +72,9 @@ module _ (slots : List Slot) (r : table.Row) where
       → given (can.σ 0) (end_of slots r.dest) ≡ not (given (can.σ 0) (end_of slots r.source))
   broken held p can =
       let holds : (c : Cell BitRef) → In c (cells slots) → Holds c (can.s 0) (can.σ 0) = can.trace.settled 0 (omega arith) in
-      let pair : can.breaks.pair ≡ (bit r.source 0 , bit r.dest 0) = elim can.breaks.is_one [ inl e ↦ e | inr h ↦ absurd h ] in
+      let pair : can.breaks.pair ≡ (bit r.source 0, bit r.dest 0) = elim can.breaks.is_one [ inl e ↦ e | inr h ↦ absurd h ] in
       let d : can.σ 0 (bit r.dest 0) ≡ not (can.σ 0 (bit r.source 0)) =
-          sym (ap (λ (q : BitRef × BitRef). can.σ 0 q.1) pair) ∙ can.breaks.differs ∙ ap (λ (q : BitRef × BitRef). not (can.σ 0 q.0)) pair in
+      sym (ap (λ (q : BitRef × BitRef). can.σ 0 q.1) pair) ∙ can.breaks.differs ∙ ap (λ (q : BitRef × BitRef). not (can.σ 0 q.0)) pair in
       sym (settled_end slots (can.s 0) (can.σ 0) holds r.dest) ∙ d ∙ ap not (settled_end slots (can.s 0) (can.σ 0) holds r.source)
 
   -- one and the same value stands at both ends
@@ -91,18 +91,21 @@ module _ (slots : List Slot) (r : table.Row) where
   named_is : (b : BitRef) → named (row_of r) b ≡ true → (same_bit b (bit r.source 0) ≡ true) ⊎ (same_bit b (bit r.dest 0) ≡ true)
   named_is b e =
       elim (or_cases ((same_bit b (bit r.source 0) || same_bit b (bit r.dest 0)) || false) false e) [
-        inl t ↦ elim (or_cases (same_bit b (bit r.source 0) || same_bit b (bit r.dest 0)) false t) [
-          inl u ↦ or_cases (same_bit b (bit r.source 0)) (same_bit b (bit r.dest 0)) u
-          | inr f ↦ cc ]
-        | inr f ↦ cc ]
+        | inl t ↦ elim (or_cases (same_bit b (bit r.source 0) || same_bit b (bit r.dest 0)) false t) [
+          | inl u ↦ or_cases (same_bit b (bit r.source 0)) (same_bit b (bit r.dest 0)) u
+          | inr f ↦ cc
+        ]
+        | inr f ↦ cc
+      ]
 
   same_bits : (a b : BitRef) → same_bit a b ≡ true → a ≡ b
   same_bits a b e = let h = both_true (a.signal == b.signal) (a.bit == b.bit) e in ap₂ (λ s k. bit s k) (same a.signal b.signal h.0) (same a.bit b.bit h.1)
 
   drives_wanted : (c : Cell BitRef) (b : BitRef) → named (row_of r) b ≡ true → c.drives b ≡ true → wanted c ≡ true
   drives_wanted c b e t = elim (named_is b e) [
-      inl s ↦ or_left (c.drives (bit r.source 0)) (c.drives (bit r.dest 0)) (ap (λ (q : BitRef). c.drives q) (sym (same_bits b (bit r.source 0) s)) ∙ t)
-      | inr d ↦ or_right (c.drives (bit r.source 0)) (c.drives (bit r.dest 0)) (ap (λ (q : BitRef). c.drives q) (sym (same_bits b (bit r.dest 0) d)) ∙ t) ]
+    | inl s ↦ or_left (c.drives (bit r.source 0)) (c.drives (bit r.dest 0)) (ap (λ (q : BitRef). c.drives q) (sym (same_bits b (bit r.source 0) s)) ∙ t)
+    | inr d ↦ or_right (c.drives (bit r.source 0)) (c.drives (bit r.dest 0)) (ap (λ (q : BitRef). c.drives q) (sym (same_bits b (bit r.dest 0) d)) ∙ t)
+  ]
 
   source_named : named (row_of r) (bit r.source 0) ≡ true
   source_named = rw (same_bit_self r.source) refl
@@ -137,8 +140,9 @@ module _ (slots : List Slot) (r : table.Row) where
       least = λ P closed c h.
           let f = filtered wanted (cells slots) c h in
           elim (or_cases (c.drives (bit r.source 0)) (c.drives (bit r.dest 0)) f.1) [
-            inl s ↦ closed.starts c f.0 (bit r.source 0) source_named s
-            | inr d ↦ closed.starts c f.0 (bit r.dest 0) dest_named d ];
+            | inl s ↦ closed.starts c f.0 (bit r.source 0) source_named s
+            | inr d ↦ closed.starts c f.0 (bit r.dest 0) dest_named d
+          ];
     }
 
     -- the leaves as places
@@ -237,6 +241,7 @@ module _ (slots : List Slot) (r : table.Row) where
           where
             apart : a ≡ b → ⊥
             apart q = let w : true ≡ false = sym (same_self a) ∙ ap (λ z. a == z) q ∙ d in cc
+
             at : (t : Bool) → nat_lt a b ≡ t → ((k : ℕ) → leaf_at k ≡ true → value k ≡ (k == (if t then b else a)))
                 → IsNoLater (map value (chosen leaf_at 0 (length slots))) (map other (chosen leaf_at 0 (length slots)))
             at true e h = let l = source_leaf a ex in with_two a b (less a b e) l.0 l.1 h (some_one (g (bit a 0)) (g (bit b 0)) broke)
@@ -267,7 +272,7 @@ module _ (slots : List Slot) (r : table.Row) where
         broken_here : Breaks (row_of r) 0 (λ k. σ)
         broken_here = record {
           met = λ k le c h. absurd h;
-          pair = (bit r.source 0 , bit r.dest 0);
+          pair = (bit r.source 0, bit r.dest 0);
           is_one = inl refl;
           differs = made_end slots (chosen_one one) r.dest (driver_at slots r.dest) refl ∙ ends_differ (end_of slots r.source) (end_of slots r.dest) differ
               ∙ ap not (sym (made_end slots (chosen_one one) r.source (driver_at slots r.source) refl));
@@ -310,14 +315,15 @@ module _ (slots : List Slot) (r : table.Row) where
         other_zero : (k : ℕ) (o : Option ℕ) → one ≡ o → ¬ In (input 0 (bit k 0)) leaves → chosen_one o k ≡ false
         other_zero k None e notin = refl
         other_zero k (Some m) e notin = elim (either (k == m)) [
-            inl t ↦ absurd (
+          | inl t ↦ absurd (
               let z : k ≡ m = same k m t in
               let l = one_leaf (end_of slots r.source) (end_of slots r.dest) m refl refl e in
               let Q : List (Leaf BitRef) → Type 0 = λ ls. In (leaf m) ls in
               let there : In (leaf m) leaves = subst Q (sym leaves_here) (in_leaves leaf_at m 0 (length slots) (omega arith) (omega arith) l.0) in
               let P : ℕ → Type 0 = λ n. In (leaf n) leaves in
               notin (subst P (sym z) there))
-            | inr f ↦ f ]
+          | inr f ↦ f
+        ]
 
         zero_at : (b : BitRef) (t : Bool) → (b.bit == 0) ≡ t → driven (cells slots) b ≡ false → ¬ In (input 0 b) leaves → (if t then worth (chosen_one one) (end_of slots b.signal) else false) ≡ false
         zero_at b false e free notin = refl

@@ -1,5 +1,5 @@
 -- The wires of a plain module are sound: assigns read inputs, which no assign writes.
-use Rattle.std.proofs.Common.{suc, zero, ◌≡◌, ◌∙◌, ◌+◌, ◌<◌, ◌≤◌, ℕ, Bool, true, false, not, ◌&&◌, ◌==◌, inl, inr, ◌⊎◌, if◌then◌else◌, List, [], ◌∷◌, ◌++◌, Option, Some, None, is_none, map, length, slice_get, slice_set, codes, nat_lt, refl, sym, ap, subst, arith, length-append, length-set}
+use Rattle.std.proofs.Common.{suc, zero, ◌≡◌, ◌∙◌, ◌+◌, ◌<◌, ℕ, Bool, true, false, not, ◌&&◌, ◌==◌, inl, inr, ◌⊎◌, if◌then◌else◌, List, [], ◌∷◌, ◌++◌, Option, Some, None, is_none, map, length, slice_get, slice_set, codes, nat_lt, refl, sym, ap, subst, length-append, length-set}
 use Rattle.std.proofs.lemmas.Option.{slice_get_within}
 use Rattle.std.proofs.lemmas.List.Quantifiers.{position-Some}
 use Rattle.std.specs.List.{list_any}
@@ -11,7 +11,7 @@ use Rattle.plain_form.specs.Words.{words}
 use Rattle.design_core.specs.Cells.{In}
 use Rattle.plain_form.specs.Wires.{Wires, all_driven, all_ports, driven, driven_by, driver_of, input_at, is_an_input, is_open_output, output_at, place, put, slot_of, source_of, then_all, wires_in, wires_of, with_port}
 use Rattle.plain_form.specs.declared.wires.Driver.{Driver}
-use Rattle.plain_form.specs.declared.wires.Driver.TheVariants.{Port, Fixed}
+use Rattle.plain_form.specs.declared.wires.Driver.TheVariants.{Port}
 use Rattle.plain_form.specs.declared.wires.Slot.{Slot}
 use Rattle.plain_rows.specs.Plain.{IsSound, driver_at, driver_in}
 use Rattle.plain_rows.proofs.CellLaws.{both_true, either, same, same_self}
@@ -89,10 +89,10 @@ set_good w i d good opens reads =
     let o = open_is (slice_get w.slots i) opens in
     let same : slice_get (slice_set w.slots i (driven_by d)) i ≡ Some (driven_by d) = set_same w.slots i (driven_by d) o.0 o.1 in
     let apart : (k : ℕ) → is_an_input (slice_get w.slots k) ≡ true → i ≡ k → ⊥ = λ k t q.
-        let u : is_an_input (Some o.0) ≡ true = ap is_an_input (sym o.1) ∙ ap (λ n. is_an_input (slice_get w.slots n)) q ∙ t in
-        let v : true ≡ false = sym u ∙ o.2 in cc in
+    let u : is_an_input (Some o.0) ≡ true = ap is_an_input (sym o.1) ∙ ap (λ n. is_an_input (slice_get w.slots n)) q ∙ t in
+    let v : true ≡ false = sym u ∙ o.2 in cc in
     let input : (k : ℕ) → is_an_input (slice_get w.slots k) ≡ true → is_an_input (slice_get (slice_set w.slots i (driven_by d)) k) ≡ true = λ k t.
-        ap is_an_input (set_other w.slots i k (driven_by d) (apart k t)) ∙ t in
+    ap is_an_input (set_other w.slots i k (driven_by d) (apart k t)) ∙ t in
     record {
       inputs_free = λ k s e t. at k s (i_is k) e t same;
       reads_inputs = λ j k e. from j k (i_is j) e same input;
@@ -101,6 +101,7 @@ set_good w i d good opens reads =
   where
     i_is : (k : ℕ) → (i ≡ k) ⊎ (i ≡ k → ⊥)
     i_is k = elim (either (i == k)) [ inl t ↦ inl (same i k t) | inr f ↦ inr (λ q. let w : true ≡ false = sym (same_self i) ∙ ap (λ n. i == n) q ∙ f in cc) ]
+
     at : (k : ℕ) (s : Slot) → (i ≡ k) ⊎ (i ≡ k → ⊥) → slice_get (slice_set w.slots i (driven_by d)) k ≡ Some s → s.is_input ≡ true
         → slice_get (slice_set w.slots i (driven_by d)) i ≡ Some (driven_by d) → s.driver ≡ None
     at k s (inl q) e t same =
@@ -108,6 +109,7 @@ set_good w i d good opens reads =
         let y : driven_by d ≡ s = cc in
         let u : false ≡ true = ap (λ (x : Slot). x.is_input) y ∙ t in cc
     at k s (inr ne) e t same = good.inputs_free k s (sym (set_other w.slots i k (driven_by d) ne) ∙ e) t
+
     from : (j k : ℕ) → (i ≡ j) ⊎ (i ≡ j → ⊥) → driver_at (slice_set w.slots i (driven_by d)) j ≡ Some (Port k) → slice_get (slice_set w.slots i (driven_by d)) i ≡ Some (driven_by d)
         → ((n : ℕ) → is_an_input (slice_get w.slots n) ≡ true → is_an_input (slice_get (slice_set w.slots i (driven_by d)) n) ≡ true)
         → is_an_input (slice_get (slice_set w.slots i (driven_by d)) k) ≡ true
@@ -125,6 +127,7 @@ right_reads w (wire name) d e k q = at (place w.names name) e
     test : (i : ℕ) (b : Bool) → is_an_input (slice_get w.slots i) ≡ b → (if b then Some (Port i) else None) ≡ Some d → is_an_input (slice_get w.slots k) ≡ true
     test i true t h = let z : i ≡ k = cc in ap (λ n. is_an_input (slice_get w.slots n)) (sym z) ∙ t
     test i false t h = cc
+
     at : (o : Option ℕ) → input_at w.slots o ≡ Some d → is_an_input (slice_get w.slots k) ≡ true
     at None h = cc
     at (Some i) h = test i (is_an_input (slice_get w.slots i)) refl h
@@ -135,9 +138,11 @@ drive_good w v a good e = at (output_at w.slots (place w.names a.left)) (driver_
     test : (i j : ℕ) (b : Bool) → is_open_output (slice_get w.slots i) ≡ b → (if b then Some i else None) ≡ Some j → is_open_output (slice_get w.slots j) ≡ true
     test i j true t h = let z : i ≡ j = cc in ap (λ n. is_open_output (slice_get w.slots n)) (sym z) ∙ t
     test i j false t h = cc
+
     found : (o : Option ℕ) (j : ℕ) → output_at w.slots o ≡ Some j → is_open_output (slice_get w.slots j) ≡ true
     found None j h = cc
     found (Some i) j h = test i j (is_open_output (slice_get w.slots i)) refl h
+
     at : (o : Option ℕ) (d : Option Driver) → ((j : ℕ) → o ≡ Some j → is_open_output (slice_get w.slots j) ≡ true)
         → ((x : Driver) → d ≡ Some x → (k : ℕ) → x ≡ Port k → is_an_input (slice_get w.slots k) ≡ true) → put w o d ≡ Some v → IsGood v
     at None d opens reads h = cc
@@ -160,6 +165,7 @@ wires_good top m v e = at (bytes_eq m.name top) e
     ports : (o : Option Wires) → all_ports (record { names = []; slots = [] }) m.ports ≡ o → then_all o (λ w. all_driven w m.assigns) ≡ Some v → IsGood v
     ports None h q = cc
     ports (Some w) h q = all_good w v m.assigns (ports_good (record { names = []; slots = [] }) w m.ports empty_good h) q
+
     at : (b : Bool) → (if b then then_all (all_ports (record { names = []; slots = [] }) m.ports) (λ w. all_driven w m.assigns) else None) ≡ Some v → IsGood v
     at true q = ports (all_ports (record { names = []; slots = [] }) m.ports) refl q
     at false q = cc
@@ -171,9 +177,11 @@ input_there slots k (Some s) e i = (s, e, i)
 pub wires_sound : (top : Text) (m : Module) (v : Wires) → wires_of top m ≡ Some v → IsSound v.slots
 wires_sound top m v e =
     let good = wires_good top m v e in
-    record { reads_free = λ j k d.
-        let i = input_there v.slots k (slice_get v.slots k) refl (good.reads_inputs j k d) in
-        (ap driver_in i.1 ∙ good.inputs_free k i.0 i.1 i.2, slice_get_within v.slots k i.0 i.1) }
+    record {
+      reads_free = λ j k d.
+          let i = input_there v.slots k (slice_get v.slots k) refl (good.reads_inputs j k d) in
+          (ap driver_in i.1 ∙ good.inputs_free k i.0 i.1 i.2, slice_get_within v.slots k i.0 i.1);
+    }
 
 pub wires_even : (top : Text) (m : Module) (v : Wires) → wires_of top m ≡ Some v → length v.names ≡ length v.slots
 wires_even top m v e = (wires_good top m v e).even
@@ -223,6 +231,7 @@ row_in names top (k ∷ n ∷ b ∷ s ∷ c ∷ d ∷ []) r e =
         let z : record { name = n; source = i; dest = j } ≡ r = cc in
         let P : table.Row → Type 0 = λ x. (x.source < length names) × (x.dest < length names) in
         subst P z (place_in names s i ep, place_in names d j eq)
+
     test : (t : Bool) → (if t then table.row_at n (place names s) (place names d) else None) ≡ Some r → (r.source < length names) × (r.dest < length names)
     test true h = at (place names s) (place names d) refl refl h
     test false h = cc
@@ -237,12 +246,15 @@ after_in names top held (l ∷ ls) rows h e =
         → (if b then None else table.rows_after names top (held ++ (r ∷ [])) ls) ≡ Some rows → AreIn (length names) rows
     taken r true is later q = cc
     taken r false is later q = later (held ++ (r ∷ [])) (λ x i. elim (in_append held r x i) [
-        inl k ↦ h x k
-        | inr same ↦ let P : table.Row → Type 0 = λ y. (y.source < length names) × (y.dest < length names) in subst P (sym same) (row_in names top (pieces 44 l) r is) ]) q
+      | inl k ↦ h x k
+      | inr same ↦ let P : table.Row → Type 0 = λ y. (y.source < length names) × (y.dest < length names) in subst P (sym same) (row_in names top (pieces 44 l) r is)
+    ]) q
+
     one : (o : Option table.Row) → table.row_of names top (pieces 44 l) ≡ o → ((more : List table.Row) → AreIn (length names) more → table.rows_after names top more ls ≡ Some rows → AreIn (length names) rows)
         → table.row_then held o (λ more. table.rows_after names top more ls) ≡ Some rows → AreIn (length names) rows
     one None is later q = cc
     one (Some r) is later q = taken r (list_any (bytes_eq r.name) (map (λ k. k.name) held)) is later q
+
     at : (b : Bool) → (table.rows_after names top held ls ≡ Some rows → AreIn (length names) rows)
         → ((more : List table.Row) → AreIn (length names) more → table.rows_after names top more ls ≡ Some rows → AreIn (length names) rows)
         → (if b then table.rows_after names top held ls else table.row_then held (table.row_of names top (pieces 44 l)) (λ more. table.rows_after names top more ls)) ≡ Some rows
@@ -256,6 +268,7 @@ rows_in names top text rows e = at (table.rows_after names top [] (pieces 10 tex
     few : (all : List table.Row) (b : Bool) → table.rows_after names top [] (pieces 10 text) ≡ Some all → (if b then None else Some all) ≡ Some rows → AreIn (length names) rows
     few all true h q = cc
     few all false h q = let z : all ≡ rows = cc in after_in names top [] (pieces 10 text) rows (λ r i. absurd i) (h ∙ ap Some z)
+
     at : (o : Option (List table.Row)) → table.rows_after names top [] (pieces 10 text) ≡ o → table.few o ≡ Some rows → AreIn (length names) rows
     at None h q = cc
     at (Some all) h q = few all (nat_lt 10000 (length all)) h q

@@ -3,7 +3,7 @@ use Rattle.std.specs.Prelude.{◌≡◌, ℕ, suc, ◌<◌, ◌==◌, nat_lt, if
 use Rattle.std.specs.List.{range_with_len}
 use Rattle.design_core.specs.declared.place.BitRef.{BitRef}
 use Rattle.design_core.specs.Core.{bit, signal, Term, constant, span, slice}
-use Rattle.design_core.specs.Cells.{Bitmap, Cell}
+use Rattle.design_core.specs.Cells.{Cell}
 use Rattle.design_core.specs.Items.{CoreItem, assign, cell_of}
 use Rattle.design_core.specs.Rows as design
 use Rattle.design_core.specs.Setups.{held_in_window, held_in_run, powered}
@@ -40,7 +40,7 @@ bits slots = map (λ i. bit i 0) (range_with_len 0 (length slots))
 
 -- a row of the table: one bit, latency 0, no conditions
 abbrev pub row_of : table.Row → design.Row BitRef
-row_of r = record { pairs = (bit r.source 0 , bit r.dest 0) ∷ []; latency = 0; conditions = [] }
+row_of r = record { pairs = (bit r.source 0, bit r.dest 0) ∷ []; latency = 0; conditions = [] }
 
 -- the verdict is right for the row: nothing is pinned, there is no reset, and launches 0 to 8 are sought
 pub record IsRightHere (slots : List Slot) (r : table.Row) (v : Verdict) : Type 0 where
@@ -85,7 +85,7 @@ is_same (Port a) (Port b) = a == b
 
 abbrev pub ones : Option ℕ → List (ℕ × BitRef)
 ones None = []
-ones (Some m) = (0 , bit m 0) ∷ []
+ones (Some m) = (0, bit m 0) ∷ []
 
 -- the verdict by the ends of the wires
 abbrev pub verdict_of : List Slot → table.Row → Verdict

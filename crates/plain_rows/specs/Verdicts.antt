@@ -1,5 +1,5 @@
 -- The right verdict on a row: proved where no window breaks it, else refuted by the earliest and first breaking run.
-use Rattle.std.specs.Prelude.{◌≡◌, ℕ, ◌+◌, ◌<◌, Bool, true, false, not, ◌&&◌, ◌||◌, if◌then◌else◌, List, [], ◌∷◌, Option, Some, None, is_none}
+use Rattle.std.specs.Prelude.{◌≡◌, ℕ, ◌+◌, ◌<◌, Bool, false, not, ◌&&◌, ◌||◌, if◌then◌else◌, List, [], ◌∷◌, Option, Some, is_none}
 use Rattle.std.specs.List.{list_any}
 use Rattle.design_core.specs.declared.place.BitRef.{BitRef}
 use Rattle.design_core.specs.Core.{same_bit}
@@ -24,7 +24,7 @@ is_leaf E run row slice b = (not (driven E b) && is_none (run 0 b)) && (named ro
 abbrev pub ones_of : (ℕ → Bitmap BitRef) → List (Leaf BitRef) → List (ℕ × BitRef)
 ones_of σ [] = []
 ones_of σ (stored b ∷ ls) = ones_of σ ls
-ones_of σ (input k b ∷ ls) = if σ k b then (k , b) ∷ ones_of σ ls else ones_of σ ls
+ones_of σ (input k b ∷ ls) = if σ k b then (k, b) ∷ ones_of σ ls else ones_of σ ls
 
 -- the first run that breaks the row at a launch: it breaks the lowest bit that some run breaks there, and among these runs its leaves
 -- come first in their order, 0 before 1, with every other free input 0. `bits` has all bits in order

@@ -1,4 +1,4 @@
-use Rattle.std.proofs.Common.{rules, ◌≡◌, ◌∙◌, refl, codes, ◌++◌}
+use Rattle.std.proofs.Common.{rules, ◌≡◌, ◌∙◌, refl, codes}
 use Rattle.conncheck.specs.Texts.{line}
 use Rattle.conncheck.proofs.PrintLaws as laws
 use Rattle.conncheck.proofs.report.say_not_yet.Goals as goal

@@ -1,4 +1,4 @@
-use Rattle.std.proofs.Common.{rules, arith, ◌≡◌, ◌<◌, ◌≤◌, ◌+◌, ◌++◌, ◌∷◌, [], Err, Ok, take, drop, map, length, count_by, not, ap, sym, subst, ◌∙◌, refl, get_or, Bool, List, ℕ}
+use Rattle.std.proofs.Common.{rules, arith, ◌≡◌, ◌+◌, ◌++◌, ◌∷◌, [], Err, take, drop, map, length, count_by, not, ap, subst, ◌∙◌, refl, get_or, List}
 use Rattle.std.proofs.lemmas.List.{take_all}
 use Rattle.plain_form.specs.Names.{listed}
 use Rattle.plain_form.specs.SeenTable.{seen_row}
@@ -6,8 +6,7 @@ use Rattle.plain_form.specs.declared.table.Line.{Line}
 use Rattle.plain_form.specs.declared.wires.Slot.{Slot}
 use Rattle.plain_rows.specs.Plain.{verdict_of}
 use Rattle.plain_rows.specs.Verdicts.{Verdict}
-use Rattle.conncheck.specs.Command.{Text}
-use Rattle.conncheck.specs.Ends.{Adds, Ends}
+use Rattle.conncheck.specs.Ends.{Adds}
 use Rattle.conncheck.specs.Outcome.{report}
 use Rattle.conncheck.specs.Texts.{total_text, total_of, verdict_text}
 use Rattle.conncheck.proofs.PrintLaws as laws
@@ -42,10 +41,10 @@ returns-in_err-say_total-clause-printed g c =
     let e : c.from_residual-in_err-say_total.result ≡ Err c.in_err-say_total.field-0.0 = search rules in
     let adds = rw (c.in_err-say_total.was {u = tt}) at c.say_total.ensures.printed in
     let total : total_of (length rows) c.loop-row.proved c.loop-row.refuted ≡ total_text (rep.js top names slots rows) =
-        rep.total_at top names slots rows (length rows) c.loop-row.proved c.loop-row.refuted refl (c.loop-row.invariant.proved ∙ ap (count_by (rep.proved_row top names slots rows)) whole)
-        (c.loop-row.invariant.refuted ∙ ap (count_by (λ r. not (rep.proved_row top names slots rows r))) whole) in
+    rep.total_at top names slots rows (length rows) c.loop-row.proved c.loop-row.refuted refl (c.loop-row.invariant.proved ∙ ap (count_by (rep.proved_row top names slots rows)) whole)
+    (c.loop-row.invariant.refuted ∙ ap (count_by (λ r. not (rep.proved_row top names slots rows r))) whole) in
     let parts : map (rep.text_at top names slots rows) (take i rows) ++ (total_of (length rows) c.loop-row.proved c.loop-row.refuted ∷ []) ≡ map (rep.text_at top names slots rows) rows ++ (total_text (rep.js top names slots rows) ∷ []) =
-        rw (whole, total) refl in
+    rw (whole, total) refl in
     rw e (laws.stopped_at (report top names (rep.js top names slots rows)) (g.K.Sink.taken c.args.out.now) (g.K.Sink.taken c.loop-row.out) (g.K.Sink.taken c.say_total.new.out)
     (map (rep.text_at top names slots rows) (take i rows)) [] (total_of (length rows) c.loop-row.proved c.loop-row.refuted) c.in_err-say_total.field-0.0
     (parts ∙ rep.pieces_at top names slots rows) c.loop-row.invariant.taken adds)
@@ -60,13 +59,14 @@ returns-then-refuted-eq0-clause-printed g c =
     let whole : take i rows ≡ rows = take_all i rows (omega arith) in
     let left : c.loop-row.refuted ≡ count_by (λ r. not (rep.proved_row top names slots rows r)) rows = c.loop-row.invariant.refuted ∙ ap (count_by (λ r. not (rep.proved_row top names slots rows r))) whole in
     let total : total_of (length rows) c.loop-row.proved c.loop-row.refuted ≡ total_text (rep.js top names slots rows) =
-        rep.total_at top names slots rows (length rows) c.loop-row.proved c.loop-row.refuted refl (c.loop-row.invariant.proved ∙ ap (count_by (rep.proved_row top names slots rows)) whole) left in
+    rep.total_at top names slots rows (length rows) c.loop-row.proved c.loop-row.refuted refl (c.loop-row.invariant.proved ∙ ap (count_by (rep.proved_row top names slots rows)) whole) left in
     let parts : map (rep.text_at top names slots rows) (take i rows) ++ (total_of (length rows) c.loop-row.proved c.loop-row.refuted ∷ []) ≡ map (rep.text_at top names slots rows) rows ++ (total_text (rep.js top names slots rows) ∷ []) =
-        rw (whole, total) refl in
-    (rep.status_done top names slots rows c.loop-row.refuted left c.if-refuted-eq0.true,
-    laws.all_out (report top names (rep.js top names slots rows)) (g.K.Sink.taken c.args.out.now) (g.K.Sink.taken c.loop-row.out) (g.K.Sink.taken c.say_total.new.out)
-    (map (rep.text_at top names slots rows) (take i rows)) (total_of (length rows) c.loop-row.proved c.loop-row.refuted)
-    (parts ∙ rep.pieces_at top names slots rows) c.loop-row.invariant.taken ((c.in_ok-say_total.ensures {u = tt}).printed))
+    rw (whole, total) refl in (
+      rep.status_done top names slots rows c.loop-row.refuted left c.if-refuted-eq0.true,
+      laws.all_out (report top names (rep.js top names slots rows)) (g.K.Sink.taken c.args.out.now) (g.K.Sink.taken c.loop-row.out) (g.K.Sink.taken c.say_total.new.out)
+          (map (rep.text_at top names slots rows) (take i rows)) (total_of (length rows) c.loop-row.proved c.loop-row.refuted)
+          (parts ∙ rep.pieces_at top names slots rows) c.loop-row.invariant.taken ((c.in_ok-say_total.ensures {u = tt}).printed),
+    )
 
 pub returns-else-refuted-eq0-clause-printed : goal.returns-else-refuted-eq0-clause-printed
 returns-else-refuted-eq0-clause-printed g c =
@@ -78,11 +78,11 @@ returns-else-refuted-eq0-clause-printed g c =
     let whole : take i rows ≡ rows = take_all i rows (omega arith) in
     let left : c.loop-row.refuted ≡ count_by (λ r. not (rep.proved_row top names slots rows r)) rows = c.loop-row.invariant.refuted ∙ ap (count_by (λ r. not (rep.proved_row top names slots rows r))) whole in
     let total : total_of (length rows) c.loop-row.proved c.loop-row.refuted ≡ total_text (rep.js top names slots rows) =
-        rep.total_at top names slots rows (length rows) c.loop-row.proved c.loop-row.refuted refl (c.loop-row.invariant.proved ∙ ap (count_by (rep.proved_row top names slots rows)) whole) left in
+    rep.total_at top names slots rows (length rows) c.loop-row.proved c.loop-row.refuted refl (c.loop-row.invariant.proved ∙ ap (count_by (rep.proved_row top names slots rows)) whole) left in
     let parts : map (rep.text_at top names slots rows) (take i rows) ++ (total_of (length rows) c.loop-row.proved c.loop-row.refuted ∷ []) ≡ map (rep.text_at top names slots rows) rows ++ (total_text (rep.js top names slots rows) ∷ []) =
-        rw (whole, total) refl in
-    (rep.status_findings top names slots rows c.loop-row.refuted left c.if-refuted-eq0.false,
-    laws.all_out (report top names (rep.js top names slots rows)) (g.K.Sink.taken c.args.out.now) (g.K.Sink.taken c.loop-row.out) (g.K.Sink.taken c.say_total.new.out)
-    (map (rep.text_at top names slots rows) (take i rows)) (total_of (length rows) c.loop-row.proved c.loop-row.refuted)
-    (parts ∙ rep.pieces_at top names slots rows) c.loop-row.invariant.taken ((c.in_ok-say_total.ensures {u = tt}).printed))
-
+    rw (whole, total) refl in (
+      rep.status_findings top names slots rows c.loop-row.refuted left c.if-refuted-eq0.false,
+      laws.all_out (report top names (rep.js top names slots rows)) (g.K.Sink.taken c.args.out.now) (g.K.Sink.taken c.loop-row.out) (g.K.Sink.taken c.say_total.new.out)
+          (map (rep.text_at top names slots rows) (take i rows)) (total_of (length rows) c.loop-row.proved c.loop-row.refuted)
+          (parts ∙ rep.pieces_at top names slots rows) c.loop-row.invariant.taken ((c.in_ok-say_total.ensures {u = tt}).printed),
+    )

@@ -15,5 +15,5 @@ invariant-loop-row g l = record {
   proved : l.proved ≡ count_by (λ r. was_proved (judge l.wires.slots.items (seen_row r))) (take l.row-index l.rows);
   refuted : l.refuted ≡ count_by (λ r. not (was_proved (judge l.wires.slots.items (seen_row r)))) (take l.row-index l.rows);
   few : l.proved ≤ l.row-index;
-  few_too : l.refuted ≤ l.row-index
+  few_too : l.refuted ≤ l.row-index;
 }

@@ -1,5 +1,5 @@
-use Rattle.std.proofs.Common.{rules, ◌≡◌, ◌≤◌, ◌∙◌, Some, None, Ok, Err, sym, ap, subst, refl, inl, length, List, ℕ}
-use Rattle.shelf_io.specs.Shelf.{IsLonger, ReadsFile, AbsentIfFailed}
+use Rattle.std.proofs.Common.{◌≡◌, ◌≤◌, ◌∙◌, Some, subst, inl, length, List, ℕ}
+use Rattle.shelf_io.specs.Shelf.{IsLonger}
 use Rattle.plain_form.specs.Wires.{source_of}
 use Rattle.conncheck.specs.Outcome.{OfSource, missing, most, too_long}
 use Rattle.conncheck.specs.Words.{seen_check}
@@ -13,7 +13,7 @@ returns-in-Err-Failed-clause-answer g c = laws.told (g.H.Shelf.tells c.args.shel
     record {
       outcome = missing w.table;
       allowed = laws.missing_first w files (g.H.Shelf.is_steady c.args.shelf.now)
-      (λ s. laws.at_told _ _ files (rw (c.in-Err-Failed.is, c.in-Err-Failed.field-0-is) at (c.read.ensures.absent s)) e);
+          (λ s. laws.at_told _ _ files (rw (c.in-Err-Failed.is, c.in-Err-Failed.field-0-is) at (c.read.ensures.absent s)) e);
       ended = c.say_missing.ensures.printed;
     })
 
@@ -29,7 +29,7 @@ returns-in-Err-Failed-read-clause-answer g c = laws.told (g.H.Shelf.tells c.args
     record {
       outcome = missing w.file;
       allowed = laws.missing_second w files (g.H.Shelf.is_steady c.args.shelf.now) c.in-Ok.bytes.items one.0 one.1
-      (λ s. laws.at_told _ _ files (rw (c.in-Err-Failed-read.is, c.in-Err-Failed-read.field-0-is) at (c.read-2.ensures.absent (c.read.ensures.steady s))) (c.read.ensures.kept ∙ e));
+          (λ s. laws.at_told _ _ files (rw (c.in-Err-Failed-read.is, c.in-Err-Failed-read.field-0-is) at (c.read-2.ensures.absent (c.read.ensures.steady s))) (c.read.ensures.kept ∙ e));
       ended = c.say_missing-in-Err-Failed-read.ensures.printed;
     })
 

@@ -1,4 +1,4 @@
-use Rattle.std.proofs.Common.{rules, ◌≡◌, ◌∙◌, sym, ap, subst, Some, None, Ok, Err, map, refl, List, ℕ}
+use Rattle.std.proofs.Common.{rules, ◌≡◌, subst, Some, None, Err, map, List, ℕ}
 use Rattle.plain_form.specs.Names.{listed}
 use Rattle.plain_form.specs.SeenTable.{seen_row}
 use Rattle.plain_form.specs.SeenWires.{seen_wires}
@@ -35,8 +35,11 @@ pub returns-in_default-2-clause-answer : goal.returns-in_default-2-clause-answer
 returns-in_default-2-clause-answer g c =
     let e : source_of (seen_check c.args.command).top c.args.source.now ≡ Some (seen_wires c.in-Some.wires) = search rules in
     let t : rows_of (listed c.in-Some.wires.names) (seen_check c.args.command).top c.args.table.now ≡ None = search rules in
-    record { outcome = not_yet (seen_check c.args.command).table;
-      of_source = laws.not_table (seen_check c.args.command) c.args.table.now c.args.source.now (seen_wires c.in-Some.wires) e t; ended = c.say_not_yet-in_default-2.ensures.printed }
+    record {
+      outcome = not_yet (seen_check c.args.command).table;
+      of_source = laws.not_table (seen_check c.args.command) c.args.table.now c.args.source.now (seen_wires c.in-Some.wires) e t;
+      ended = c.say_not_yet-in_default-2.ensures.printed;
+    }
 
 pub returns-clause-answer : goal.returns-clause-answer
 returns-clause-answer g c =

@@ -1,4 +1,4 @@
-use Rattle.std.proofs.Common.{rules, ◌≡◌, ◌∙◌, ap, ap₂, sym, subst, true, false, Option, ℕ}
+use Rattle.std.proofs.Common.{◌∙◌, ap₂, sym, subst, Option, ℕ}
 use Rattle.plain_form.specs.SeenTable.{seen_row}
 use Rattle.plain_rows.specs.Plain.{IsRightHere, end_of, is_same, one_of, ones}
 use Rattle.plain_rows.specs.Verdicts.{refuted}

@@ -1,0 +1,36 @@
+//! The program: the files of the system and standard output, handed to `run` with the words of the command line.
+#![tactic(auto)]
+
+mod real_shelf;
+mod real_sink;
+
+use conncheck::{Status, run};
+use real_shelf::RealShelf;
+use real_sink::RealSink;
+use std::alloc::Global;
+use std::env;
+use std::process::ExitCode;
+
+const USAGE: &str = "usage: conncheck check --top M --table F FILE";
+
+// The words after the program's name; none where some of them are no text. `None` where memory is wanting.
+fn words_after_name(rt: &HostRuntime, alloc: Global) -> Option<Vec<String>> {
+    match env::args(rt) {
+        Ok(words) => words.skip(1).collect(alloc).ok(),
+        Err(_) => Some(Vec::new(alloc)),
+    }
+}
+
+fn main(rt: HostRuntime) -> ExitCode {
+    let alloc = rt.alloc();
+    let Some(words) = words_after_name(&rt, alloc) else {
+        return ExitCode::from(Status::NoMemory.code());
+    };
+    let mut shelf = RealShelf::new(&rt);
+    let mut sink = RealSink::new(&rt);
+    let status = run(alloc, words.as_slice(), &mut shelf, &mut sink);
+    if status == Status::BadWords {
+        let _ = eprintln!(rt; "{USAGE}");
+    }
+    ExitCode::from(status.code())
+}
