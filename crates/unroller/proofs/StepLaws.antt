@@ -20,9 +20,10 @@ use Rattle.unroller.specs.Tables.{read_node}
 
 pub agree_states : (n : ℕ) (ps : List BitLeaf) (w : ℕ → Bool) (σ : Trace) → ((k : ℕ) → k < length ps → w (n + k) ≡ σ 0 (leaf_of ps k)) → Agree n (state_places Free ps) w σ
 agree_states n [] w σ h = tt
-agree_states n (p ∷ ps) w σ h =
-    (ap w (omega arith) ∙ h 0 (omega arith),
-     agree_states (n + 1) ps w σ (λ k lt. ap w (omega arith) ∙ h (suc k) (omega arith)))
+agree_states n (p ∷ ps) w σ h = (
+  ap w (omega arith) ∙ h 0 (omega arith),
+  agree_states (n + 1) ps w σ (λ k lt. ap w (omega arith) ∙ h (suc k) (omega arith)),
+)
 
 free_length : (ps : List BitLeaf) → length (state_places Free ps) ≡ length ps
 free_length [] = refl
@@ -39,7 +40,7 @@ started_free states old new sources leaves i e kept nodes count has values = rec
   count = count ∙ e ∙ sym (free_length states);
   has = has;
   agree = λ w σ h. agree_states 0 states w σ (λ k lt. ap w (omega arith) ∙ sym (values w k (omega arith)) ∙ sym (h k lt));
-  starts = λ w k lt. tt
+  starts = λ w k lt. tt;
 }
 
 pub started_power : (values : List FixedBit) (states : List BitLeaf) (net : List Node) (sources : List ℕ) (i : ℕ) → i ≡ length states → AreNodes net sources → ((x : ℕ) → has_leaf net x ≡ false) → ((w : ℕ → Bool) (k : ℕ) → k < i → value net w (read_node sources (leaf_of states k)) ≡ is_one (value_of values (bit_of states k))) → Started (PowerUp values) states net net sources 0
@@ -49,7 +50,7 @@ started_power values states net sources i e nodes none says = record {
   count = ap length (sym (none_length values states));
   has = λ x. none x ∙ sym (le-ltb x 0 (omega arith));
   agree = λ w σ h. subst (λ (ps : List Place). Agree 0 ps w σ) (sym (none_length values states)) tt;
-  starts = λ w k lt. says w k (omega arith)
+  starts = λ w k lt. says w k (omega arith);
 }
 
 leaf_here : (ps : List BitLeaf) (i : ℕ) (p : BitLeaf) → i < length ps → p ≡ get_or ps i p → leaf_of ps i ≡ p.leaf
@@ -77,17 +78,16 @@ places_fixed setup t (q ∷ qs) p v e = free_same (fixed_at setup t q.bit) t q.l
 below_next : (x n : ℕ) → (ltb x n || eqb x n) ≡ ltb x (n + 1)
 below_next x n =
     elim (cases_lt x n) [
-      inl lt ↦ ap (λ (b : Bool). b || eqb x n) (lt-ltb x n lt) ∙ sym (lt-ltb x (n + 1) (omega arith))
-    | inr ge ↦ elim (cases_eq x n) [
-          inl e ↦ ap₂ (λ (a b : Bool). a || b) (le-ltb x n ge) (eq-eqb x n e) ∙ sym (lt-ltb x (n + 1) (omega arith))
+      | inl lt ↦ ap (λ (b : Bool). b || eqb x n) (lt-ltb x n lt) ∙ sym (lt-ltb x (n + 1) (omega arith))
+      | inr ge ↦ elim (cases_eq x n) [
+        | inl e ↦ ap₂ (λ (a b : Bool). a || b) (le-ltb x n ge) (eq-eqb x n e) ∙ sym (lt-ltb x (n + 1) (omega arith))
         | inr ne ↦ ap₂ (λ (a b : Bool). a || b) (le-ltb x n ge) (ne_eqb x n ne) ∙ sym (le-ltb x (n + 1) (omega arith))
-        ]
+      ]
     ]
 
 module _ (setup : Fixed) (t : ℕ) (inputs : List BitLeaf) (i : ℕ) (p : BitLeaf) (lt : i < length inputs) (is : p ≡ get_or inputs i p) (apart : Apart inputs)
-  (old net net' : List Node) (before sources sources' : List ℕ) (first leaves next at : ℕ) (done : Placing setup t inputs i old before first net sources leaves)
-  (kept : Extends net net') (within : at < length net') (put : (b : ℕ) → read_node sources' b ≡ cond (eqb b p.leaf) at (read_node sources b)) where
-
+    (old net net' : List Node) (before sources sources' : List ℕ) (first leaves next at : ℕ) (done : Placing setup t inputs i old before first net sources leaves)
+    (kept : Extends net net') (within : at < length net') (put : (b : ℕ) → read_node sources' b ≡ cond (eqb b p.leaf) at (read_node sources b)) where
   here : leaf_of inputs i ≡ p.leaf
   here = leaf_here inputs i p lt is
 
@@ -106,8 +106,8 @@ module _ (setup : Fixed) (t : ℕ) (inputs : List BitLeaf) (i : ℕ) (p : BitLea
   still_nodes : AreNodes net' sources'
   still_nodes l =
       elim (cases_eq l p.leaf) [
-        inl e ↦ subst (λ (n : ℕ). n < length net') (sym (put l ∙ cond-true (eqb l p.leaf) at (read_node sources l) (eq-eqb l p.leaf e))) within
-      | inr ne ↦ subst (λ (n : ℕ). n < length net') (sym (source_other l ne)) (let a = done.nodes l in let b = kept.longer in omega arith)
+        | inl e ↦ subst (λ (n : ℕ). n < length net') (sym (put l ∙ cond-true (eqb l p.leaf) at (read_node sources l) (eq-eqb l p.leaf e))) within
+        | inr ne ↦ subst (λ (n : ℕ). n < length net') (sym (source_other l ne)) (let a = done.nodes l in let b = kept.longer in omega arith)
       ]
 
   still_others : (l : ℕ) → ((k : ℕ) → k < i + 1 → leaf_of inputs k ≡ l → ⊥) → read_node sources' l ≡ read_node before l
@@ -125,7 +125,7 @@ module _ (setup : Fixed) (t : ℕ) (inputs : List BitLeaf) (i : ℕ) (p : BitLea
   same_some : (v b : Bool) → ◌≡◌ {A = Option Bool} (Some v) (Some b) → v ≡ b
   same_some v b e = cc
 
-  placed_by : (o : Option Bool) → o ≡ fixed_at setup t p.bit → InputSays o leaves net net' at next → Placing setup t inputs (i + 1) old before first net' sources' next
+  pub placed_by : (o : Option Bool) → o ≡ fixed_at setup t p.bit → InputSays o leaves net net' at next → Placing setup t inputs (i + 1) old before first net' sources' next
   placed_by (Some v) e says =
       let fix : fixed_at setup t (bit_of inputs i) ≡ Some v = ap (fixed_at setup t) (bit_here inputs i p lt is) ∙ sym e in
       record {
@@ -135,11 +135,11 @@ module _ (setup : Fixed) (t : ℕ) (inputs : List BitLeaf) (i : ℕ) (p : BitLea
         has = λ x. says.2 x ∙ done.has x ∙ ap (ltb x) (sym says.1);
         others = still_others;
         fixed = λ w k b less. up_to {P = λ k. fixed_at setup t (bit_of inputs k) ≡ Some b → value net' w (read_node sources' (leaf_of inputs k)) ≡ b}
-          (λ k' l' f. value_before w k' l' ∙ done.fixed w k' b l' f)
-          (λ f. ap (value net' w) source_here ∙ says.0 w ∙ same_some v b (sym fix ∙ f)) k less;
+            (λ k' l' f. value_before w k' l' ∙ done.fixed w k' b l' f)
+            (λ f. ap (value net' w) source_here ∙ says.0 w ∙ same_some v b (sym fix ∙ f)) k less;
         free = λ w k less. up_to {P = λ k. fixed_at setup t (bit_of inputs k) ≡ None → value net' w (read_node sources' (leaf_of inputs k)) ≡ w (first + length (input_places setup t (take k inputs)))}
-          (λ k' l' f. value_before w k' l' ∙ done.free w k' l' f)
-          (λ f. some_is_none v (sym fix ∙ f)) k less
+            (λ k' l' f. value_before w k' l' ∙ done.free w k' l' f)
+            (λ f. some_is_none v (sym fix ∙ f)) k less;
       }
   placed_by None e says =
       let fix : fixed_at setup t (bit_of inputs i) ≡ None = ap (fixed_at setup t) (bit_here inputs i p lt is) ∙ sym e in
@@ -150,11 +150,11 @@ module _ (setup : Fixed) (t : ℕ) (inputs : List BitLeaf) (i : ℕ) (p : BitLea
         has = λ x. says.2 x ∙ ap (λ (b : Bool). b || eqb x leaves) (done.has x) ∙ below_next x leaves ∙ ap (ltb x) (sym says.1);
         others = still_others;
         fixed = λ w k b less. up_to {P = λ k. fixed_at setup t (bit_of inputs k) ≡ Some b → value net' w (read_node sources' (leaf_of inputs k)) ≡ b}
-          (λ k' l' f. value_before w k' l' ∙ done.fixed w k' b l' f)
-          (λ f. some_is_none b (sym f ∙ fix)) k less;
+            (λ k' l' f. value_before w k' l' ∙ done.fixed w k' b l' f)
+            (λ f. some_is_none b (sym f ∙ fix)) k less;
         free = λ w k less. up_to {P = λ k. fixed_at setup t (bit_of inputs k) ≡ None → value net' w (read_node sources' (leaf_of inputs k)) ≡ w (first + length (input_places setup t (take k inputs)))}
-          (λ k' l' f. value_before w k' l' ∙ done.free w k' l' f)
-          (λ f. ap (value net' w) source_here ∙ says.0 w ∙ ap w done.count) k less
+            (λ k' l' f. value_before w k' l' ∙ done.free w k' l' f)
+            (λ f. ap (value net' w) source_here ∙ says.0 w ∙ ap w done.count) k less;
       }
 
 pub placing_start : (setup : Fixed) (t : ℕ) (inputs : List BitLeaf) (net : List Node) (sources : List ℕ) (first : ℕ) → AreNodes net sources → ((x : ℕ) → has_leaf net x ≡ ltb x first) → Placing setup t inputs 0 net sources first net sources first
@@ -165,7 +165,7 @@ placing_start setup t inputs net sources first nodes has = record {
   has = has;
   others = λ l h. refl;
   fixed = λ w k b lt. absurd (omega arith);
-  free = λ w k lt. absurd (omega arith)
+  free = λ w k lt. absurd (omega arith);
 }
 
 pub placing_end : (setup : Fixed) (t : ℕ) (inputs : List BitLeaf) (i : ℕ) (old new : List Node) (before after : List ℕ) (first leaves : ℕ) → i ≡ length inputs → take i inputs ≡ inputs → Placing setup t inputs i old before first new after leaves → Given setup t inputs old before first new after leaves
@@ -176,7 +176,7 @@ placing_end setup t inputs i old new before after first leaves e whole g = recor
   has = g.has;
   others = λ l h. g.others l (λ k lt. h k (omega arith));
   fixed = λ w k b lt. g.fixed w k b (omega arith);
-  free = λ w k lt. g.free w k (omega arith)
+  free = λ w k lt. g.free w k (omega arith);
 }
 
 -- a gate over other leaves and nodes of the same values
@@ -203,22 +203,22 @@ copying_more cycle old net net' sources copies copies' i at x d all lt is below 
     record {
       kept = Extends-trans old net net' c.kept kept;
       nodes = λ n. elim (cases_eq n (length copies)) [
-          inl h ↦ subst (λ (m : ℕ). m < length net') (sym (last n h)) within
+        | inl h ↦ subst (λ (m : ℕ). m < length net') (sym (last n h)) within
         | inr ne ↦ subst (λ (m : ℕ). m < length net') (sym (other n ne)) (let a = c.nodes n in let b = kept.longer in omega arith)
-        ];
+      ];
       has = λ y. has y ∙ c.has y;
       long = omega (arith, ap length e, length-append copies (at ∷ []), c.long);
       values = λ w k less. elim (cases_eq k i) [
-          inl h ↦
+        | inl h ↦
             let v : ℕ → Bool = λ l. value old w (read_node sources l) in
             ap (value net' w) (last k (h ∙ sym c.long)) ∙ worth w
             ∙ gate_alike (λ l. value net w (read_node sources l)) v (λ j. value net w (read_node copies j)) (value cycle v) i x
-              (λ l. c.kept.same (read_node sources l) w (nodes l)) below (λ j lt'. c.values w j lt')
+            (λ l. c.kept.same (read_node sources l) w (nodes l)) below (λ j lt'. c.values w j lt')
             ∙ ap (gate_value v (value cycle v)) is
             ∙ sym (value_gate cycle v i x all lt)
             ∙ ap (value cycle v) (sym h)
         | inr ne ↦ ap (value net' w) (other k (λ h. ne (h ∙ c.long))) ∙ kept.same (read_node copies k) w (c.nodes k) ∙ c.values w k (omega arith)
-        ]
+      ];
     }
 
 pub copying_start : (cycle net : List Node) (sources : List ℕ) → 2 ≤ length net → Copying cycle 0 net sources net []
@@ -227,7 +227,7 @@ copying_start cycle net sources two = record {
   nodes = λ n. omega arith;
   has = λ x. refl;
   long = refl;
-  values = λ w k lt. absurd (omega arith)
+  values = λ w k lt. absurd (omega arith);
 }
 
 pub copying_end : (cycle old new : List Node) (sources copies : List ℕ) (i : ℕ) → length cycle ≤ i → Copying cycle i old sources new copies → Copied cycle old sources new copies
@@ -236,7 +236,7 @@ copying_end cycle old new sources copies i le c = record { kept = c.kept; nodes 
 -- leaves that stand once stand apart
 times_one : (ps : List BitLeaf) (k : ℕ) → k < length ps → 1 ≤ times (leaf_of ps k) ps
 times_one [] k lt = absurd (omega arith)
-times_one (p ∷ ps) zero lt = let e = cond-true (eqb p.leaf p.leaf) 1 0 (eq-eqb p.leaf p.leaf refl) in omega arith
+times_one (p ∷ ps) zero lt = let e : cond {A = ℕ} (eqb p.leaf p.leaf) 1 0 ≡ 1 = cond-true (eqb p.leaf p.leaf) 1 0 (eq-eqb p.leaf p.leaf refl) in omega arith
 times_one (p ∷ ps) (suc k) lt = let h = times_one ps k (omega arith) in omega arith
 
 times_two : (ps : List BitLeaf) (j k : ℕ) → j < k → k < length ps → leaf_of ps j ≡ leaf_of ps k → 2 ≤ times (leaf_of ps k) ps
@@ -244,7 +244,7 @@ times_two [] j k less lt e = absurd (omega arith)
 times_two (p ∷ ps) j zero less lt e = absurd (omega arith)
 times_two (p ∷ ps) zero (suc k) less lt e =
     let h = times_one ps k (omega arith) in
-    let one = cond-true (eqb p.leaf (leaf_of ps k)) 1 0 (eq-eqb p.leaf (leaf_of ps k) e) in
+    let one : cond {A = ℕ} (eqb p.leaf (leaf_of ps k)) 1 0 ≡ 1 = cond-true (eqb p.leaf (leaf_of ps k)) 1 0 (eq-eqb p.leaf (leaf_of ps k) e) in
     omega arith
 times_two (p ∷ ps) (suc j) (suc k) less lt e = let h = times_two ps j k (omega arith) (omega arith) e in omega arith
 
@@ -252,14 +252,20 @@ one_or_none : (b : Bool) → cond b 1 0 ≤ 1
 one_or_none true = omega arith
 one_or_none false = omega arith
 
+pub at_most_one : (net : List Node) (ps qs : List BitLeaf) → ((i : ℕ) → times i ps + times i qs ≡ cond (has_leaf net i) 1 0) → (i : ℕ) → times i ps + times i qs ≤ 1
+at_most_one net ps qs h i = let e = h i in let o = one_or_none (has_leaf net i) in omega arith
+
 pub apart_by : (ps : List BitLeaf) → ((i : ℕ) → times i ps ≤ 1) → Apart ps
 apart_by ps h j k less lt e = let a = times_two ps j k less lt e in let b = h (leaf_of ps k) in omega arith
+
+pub apart_first : (net : List Node) (ps qs : List BitLeaf) → ((i : ℕ) → times i ps + times i qs ≡ cond (has_leaf net i) 1 0) → Apart ps
+apart_first net ps qs h = apart_by ps (λ i. let m = at_most_one net ps qs h i in omega arith)
+
+pub apart_second : (net : List Node) (ps qs : List BitLeaf) → ((i : ℕ) → times i ps + times i qs ≡ cond (has_leaf net i) 1 0) → Apart qs
+apart_second net ps qs h = apart_by qs (λ i. let m = at_most_one net ps qs h i in omega arith)
 
 pub across_by : (ps qs : List BitLeaf) → ((i : ℕ) → times i ps + times i qs ≤ 1) → Across ps qs
 across_by ps qs h j k lj lk e =
     let a = times_one ps j lj in let b = times_one qs k lk in
     let c = subst (λ (i : ℕ). 1 ≤ times i ps) e a in
     let d = h (leaf_of qs k) in omega arith
-
-pub at_most_one : (net : List Node) (ps qs : List BitLeaf) → ((i : ℕ) → times i ps + times i qs ≡ cond (has_leaf net i) 1 0) → (i : ℕ) → times i ps + times i qs ≤ 1
-at_most_one net ps qs h i = let e = h i in let o = one_or_none (has_leaf net i) in omega arith

@@ -15,8 +15,8 @@ padded (x ∷ xs) d (suc b) = padded xs d b
 pub put_at : {X : Type 0} (xs : List X) (n b : ℕ) (x d : X) → n < length xs → get_or (set xs n x) b d ≡ cond (eqb b n) x (get_or xs b d)
 put_at xs n b x d lt =
     elim (cases_eq b n) [
-      inl e ↦ ap (λ (k : ℕ). get_or (set xs n x) k d) e ∙ get_or-set_same xs n x d lt ∙ sym (cond-true (eqb b n) x (get_or xs b d) (eq-eqb b n e))
-    | inr ne ↦ get_or-set_other xs n b x d ne ∙ sym (cond-false (eqb b n) x (get_or xs b d) (ne_eqb b n ne))
+      | inl e ↦ ap (λ (k : ℕ). get_or (set xs n x) k d) e ∙ get_or-set_same xs n x d lt ∙ sym (cond-true (eqb b n) x (get_or xs b d) (eq-eqb b n e))
+      | inr ne ↦ get_or-set_other xs n b x d ne ∙ sym (cond-false (eqb b n) x (get_or xs b d) (ne_eqb b n ne))
     ]
 
 pub value_more : (pins : List FixedBit) (i b : ℕ) (d : FixedBit) → i < length pins → d ≡ get_or pins i d → value_of (take (i + 1) pins) b ≡ cond (eqb b d.bit) (Some d.value) (value_of (take i pins) b)

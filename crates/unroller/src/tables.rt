@@ -2,11 +2,10 @@ ghost use Rattle.std.specs.Prelude.{◌≡◌, ℕ, cond, eqb, OnOk, IfOk};
 ghost use Rattle.unroller.specs.Setups.{value_of, next_of};
 ghost use Rattle.unroller.specs.Tables.{read_value, read_node};
 
+use crate::setup::FixedBit;
 use bits_core::NoMemory;
 use cyc_net::{BitNode, NodeId};
 use std::alloc::Global;
-
-use crate::setup::FixedBit;
 
 /// Puts a value into a table by number, which grows where it is too short.
 fn put_value(table: &mut Vec<Option<bool>>, number: u32, value: bool) -> Result<(), NoMemory>

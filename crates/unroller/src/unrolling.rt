@@ -8,13 +8,12 @@ ghost use Rattle.cyc_net.specs.declared.cycle.BitNode.{BitNode};
 ghost use Rattle.unroller.specs.declared.setup.StartState.{StartState};
 ghost use Rattle.unroller.specs.declared.setup.StartState.TheVariants.{Free, PowerUp};
 
-use bits_core::{Items, NoMemory};
-use cyc_net::{BitLeaf, BitNode, CycleNet, Net, Node, NodeId, NodeList};
-use std::alloc::Global;
-
 use crate::frames::{FrameList, Unrolled};
 use crate::setup::{Fixed, FixedBitList, FixedReset, StartState};
 use crate::tables::{next_table, put_node, value_table};
+use bits_core::{Items, NoMemory};
+use cyc_net::{BitLeaf, BitNode, CycleNet, Net, Node, NodeId, NodeList};
+use std::alloc::Global;
 
 /// A new leaf with the next number, which is wanting where the numbers are at their end.
 fn push_leaf(net: &mut Net, leaves: u32) -> Result<NodeId, NoMemory>
@@ -38,7 +37,11 @@ fn constant(net: &Net, bit: bool) -> NodeId
 }
 
 /// Gives each stored bit a leaf, in their order.
-fn free_states(net: &mut Net, states: &[BitLeaf], sources: &mut Vec<NodeId>) -> Result<u32, NoMemory>
+fn free_states(
+    net: &mut Net,
+    states: &[BitLeaf],
+    sources: &mut Vec<NodeId>,
+) -> Result<u32, NoMemory>
     requires apart { Apart states.now }
     requires nodes { AreNodes net.old sources.old.items }
     requires none { (i : ℕ) → has_leaf net.old i ≡ false }
@@ -54,7 +57,13 @@ fn free_states(net: &mut Net, states: &[BitLeaf], sources: &mut Vec<NodeId>) -> 
 }
 
 /// Gives each stored bit the constant of its value at power-up.
-fn fixed_states(alloc: Global, net: &Net, states: &[BitLeaf], values: &FixedBitList, sources: &mut Vec<NodeId>) -> Result<(), NoMemory>
+fn fixed_states(
+    alloc: Global,
+    net: &Net,
+    states: &[BitLeaf],
+    values: &FixedBitList,
+    sources: &mut Vec<NodeId>,
+) -> Result<(), NoMemory>
     requires apart { Apart states.now }
     requires nodes { AreNodes net.now sources.old.items }
     requires none { (i : ℕ) → has_leaf net.now i ≡ false }
@@ -79,7 +88,13 @@ fn is_set(table: &[Option<bool>], number: u32) -> bool
 }
 
 /// The stored bits of the first cycle.
-fn place_states(alloc: Global, net: &mut Net, states: &[BitLeaf], start: &StartState, sources: &mut Vec<NodeId>) -> Result<u32, NoMemory>
+fn place_states(
+    alloc: Global,
+    net: &mut Net,
+    states: &[BitLeaf],
+    start: &StartState,
+    sources: &mut Vec<NodeId>,
+) -> Result<u32, NoMemory>
     requires apart { Apart states.now }
     requires nodes { AreNodes net.old sources.old.items }
     requires none { (i : ℕ) → has_leaf net.old i ≡ false }
@@ -95,14 +110,23 @@ fn place_states(alloc: Global, net: &mut Net, states: &[BitLeaf], start: &StartS
 }
 
 /// The value that an input bit has in a cycle, where it is pinned or the reset.
-fn fixed_value(pins: &[Option<bool>], reset: &Option<FixedReset>, bit: u32, cycle: u32) -> Option<bool>
+fn fixed_value(
+    pins: &[Option<bool>],
+    reset: &Option<FixedReset>,
+    bit: u32,
+    cycle: u32,
+) -> Option<bool>
     ensures { result ≡ or_some (read_value pins.now bit) (reset_value reset.now cycle bit) }
 {
     if let Some(Some(value)) = pins.get(bit as usize) {
         return Some(*value);
     }
     match reset {
-        Some(reset) if reset.bit == bit => Some(if cycle < reset.cycles { reset.asserted } else { !reset.asserted }),
+        Some(reset) if reset.bit == bit => Some(if cycle < reset.cycles {
+            reset.asserted
+        } else {
+            !reset.asserted
+        }),
         _ => None,
     }
 }
@@ -123,7 +147,15 @@ fn input_node(net: &mut Net, fixed: Option<bool>, leaves: u32) -> Result<(NodeId
 }
 
 /// The input bits of a cycle.
-fn place_inputs(net: &mut Net, inputs: &[BitLeaf], pins: &[Option<bool>], setup: &Fixed, cycle: u32, sources: &mut Vec<NodeId>, first: u32) -> Result<u32, NoMemory>
+fn place_inputs(
+    net: &mut Net,
+    inputs: &[BitLeaf],
+    pins: &[Option<bool>],
+    setup: &Fixed,
+    cycle: u32,
+    sources: &mut Vec<NodeId>,
+    first: u32,
+) -> Result<u32, NoMemory>
     requires apart { Apart inputs.now }
     requires nodes { AreNodes net.old sources.old.items }
     requires has { (i : ℕ) → has_leaf net.old i ≡ ltb i first }
@@ -132,7 +164,11 @@ fn place_inputs(net: &mut Net, inputs: &[BitLeaf], pins: &[Option<bool>], setup:
 {
     let mut leaves = first;
     for input in inputs {
-        let (node, next) = input_node(net, fixed_value(pins, &setup.reset, input.bit, cycle), leaves)?;
+        let (node, next) = input_node(
+            net,
+            fixed_value(pins, &setup.reset, input.bit, cycle),
+            leaves,
+        )?;
         put_node(sources, input.leaf, node)?;
         leaves = next;
     }
@@ -150,7 +186,12 @@ fn node_of(table: &[NodeId], number: u32) -> NodeId
 }
 
 /// A node of the cycle net, over the sources of its leaves and the copies of the nodes before it.
-fn copy_node(net: &mut Net, node: Node, sources: &[NodeId], copies: &[NodeId]) -> Result<NodeId, NoMemory>
+fn copy_node(
+    net: &mut Net,
+    node: Node,
+    sources: &[NodeId],
+    copies: &[NodeId],
+) -> Result<NodeId, NoMemory>
     requires sources { AreNodes net.old sources.now }
     requires copies { AreNodes net.old copies.now }
     ensures kept { Extends net.old net.new }
@@ -163,12 +204,21 @@ fn copy_node(net: &mut Net, node: Node, sources: &[NodeId], copies: &[NodeId]) -
         Node::Leaf(number) => Ok(node_of(sources, number)),
         Node::And(a, b) => Ok(net.push(Node::And(node_of(copies, a), node_of(copies, b)))?),
         Node::Xor(a, b) => Ok(net.push(Node::Xor(node_of(copies, a), node_of(copies, b)))?),
-        Node::Mux(c, a, b) => Ok(net.push(Node::Mux(node_of(copies, c), node_of(copies, a), node_of(copies, b)))?),
+        Node::Mux(c, a, b) => Ok(net.push(Node::Mux(
+            node_of(copies, c),
+            node_of(copies, a),
+            node_of(copies, b),
+        ))?),
     }
 }
 
 /// The nodes of the cycle net, over the sources of its leaves.
-fn copy_net(alloc: Global, net: &mut Net, cycle: &Net, sources: &[NodeId]) -> Result<Vec<NodeId>, NoMemory>
+fn copy_net(
+    alloc: Global,
+    net: &mut Net,
+    cycle: &Net,
+    sources: &[NodeId],
+) -> Result<Vec<NodeId>, NoMemory>
     requires { AreNodes net.old sources.now }
     ensures { IfOk result (λ copies. Copied cycle.now net.old sources.now net.new copies.items) }
 {
@@ -196,19 +246,38 @@ fn frame_of(alloc: Global, bits: &[BitNode], copies: &[NodeId]) -> Result<NodeLi
 }
 
 /// The stored bits of the next cycle.
-fn next_states(states: &[BitLeaf], nexts: &[NodeId], copies: &[NodeId], sources: &mut Vec<NodeId>) -> Result<(), NoMemory>
+fn next_states(
+    states: &[BitLeaf],
+    nexts: &[NodeId],
+    copies: &[NodeId],
+    sources: &mut Vec<NodeId>,
+) -> Result<(), NoMemory>
     requires apart { Apart states.now }
     ensures linked { OnOk result ((k : ℕ) → k < length states.now → read_node sources.new.items (leaf_of states.now k) ≡ read_node copies.now (read_node nexts.now (bit_of states.now k))) }
     ensures nodes { OnOk result ((n : ℕ) → ((l : ℕ) → read_node sources.old.items l < n) → ((l : ℕ) → read_node copies.now l < n) → (l : ℕ) → read_node sources.new.items l < n) }
 {
     for state in states {
-        put_node(sources, state.leaf, node_of(copies, node_of(nexts, state.bit)))?;
+        put_node(
+            sources,
+            state.leaf,
+            node_of(copies, node_of(nexts, state.bit)),
+        )?;
     }
     Ok(())
 }
 
 /// One more cycle: its input bits, its nodes, and the stored bits of the next one.
-fn step(alloc: Global, net: &mut Net, cycle: &CycleNet, pins: &[Option<bool>], nexts: &[NodeId], setup: &Fixed, at: u32, sources: &mut Vec<NodeId>, leaves: u32) -> Result<(NodeList, u32), NoMemory>
+fn step(
+    alloc: Global,
+    net: &mut Net,
+    cycle: &CycleNet,
+    pins: &[Option<bool>],
+    nexts: &[NodeId],
+    setup: &Fixed,
+    at: u32,
+    sources: &mut Vec<NodeId>,
+    leaves: u32,
+) -> Result<(NodeList, u32), NoMemory>
     requires cycle { IsCycleNet cycle.now }
     requires pins { (b : ℕ) → read_value pins.now b ≡ value_of setup.now.pins b }
     requires nexts { (b : ℕ) → read_node nexts.now b ≡ next_of cycle.now.nexts b }
@@ -216,28 +285,55 @@ fn step(alloc: Global, net: &mut Net, cycle: &CycleNet, pins: &[Option<bool>], n
     requires has { (i : ℕ) → has_leaf net.old i ≡ ltb i leaves }
     ensures { IfOk result (λ r. (start : StartState) (frames : List (List BitNode)) → Before cycle.now setup.now start at net.old sources.old.items leaves frames → Before cycle.now setup.now start (at + 1) net.new sources.new.items r.1 (frames ++ r.0 ∷ [])) }
 {
-    let more = place_inputs(net, cycle.inputs.as_slice(), pins, setup, at, sources, leaves)?;
-    let copies = copy_net(alloc, net, &cycle.net, sources.as_slice())?;
-    let frame = frame_of(alloc, cycle.bits.as_slice(), copies.as_slice())?;
-    next_states(cycle.states.as_slice(), nexts, copies.as_slice(), sources)?;
+    prove!(cycle.net.len() >= 2);
+    let inputs = cycle.inputs.as_slice();
+    let states = cycle.states.as_slice();
+    let bits = cycle.bits.as_slice();
+    let more = place_inputs(net, inputs, pins, setup, at, sources, leaves)?;
+    let known = sources.as_slice();
+    let copies = copy_net(alloc, net, &cycle.net, known)?;
+    let copied = copies.as_slice();
+    let frame = frame_of(alloc, bits, copied)?;
+    next_states(states, nexts, copied, sources)?;
     Ok((frame, more))
 }
 
 /// The windows of a cycle net over so many cycles, where the start is free, and else its runs from power-up. Pinned bits and the reset have
 /// their values, and each other input bit of each cycle is a leaf; before these come the stored bits of the first cycle, where they
 /// are free. Linear in the cycles times the nodes.
-pub fn unroll(alloc: Global, cycle: &CycleNet, setup: &Fixed, frames: u32, start: &StartState) -> Result<Unrolled, NoMemory>
+pub fn unroll(
+    alloc: Global,
+    cycle: &CycleNet,
+    setup: &Fixed,
+    frames: u32,
+    start: &StartState,
+) -> Result<Unrolled, NoMemory>
     requires { IsCycleNet cycle.now }
     ensures { IfOk result (λ unrolled. IsUnrolled cycle.now setup.now frames start.now unrolled) }
 {
     let mut net = Net::new(alloc)?;
     let mut sources = Vec::new(alloc);
-    let pins = value_table(alloc, setup.pins.as_slice())?;
-    let nexts = next_table(alloc, cycle.nexts.as_slice())?;
-    let mut leaves = place_states(alloc, &mut net, cycle.states.as_slice(), start, &mut sources)?;
+    let pinned = setup.pins.as_slice();
+    let pins = value_table(alloc, pinned)?;
+    let following = cycle.nexts.as_slice();
+    let nexts = next_table(alloc, following)?;
+    let states = cycle.states.as_slice();
+    let mut leaves = place_states(alloc, &mut net, states, start, &mut sources)?;
     let mut done = Items::new(alloc);
     for at in 0..frames {
-        let (frame, more) = step(alloc, &mut net, cycle, pins.as_slice(), nexts.as_slice(), setup, at, &mut sources, leaves)?;
+        let pins = pins.as_slice();
+        let nexts = nexts.as_slice();
+        let (frame, more) = step(
+            alloc,
+            &mut net,
+            cycle,
+            pins,
+            nexts,
+            setup,
+            at,
+            &mut sources,
+            leaves,
+        )?;
         done.push(frame)?;
         leaves = more;
     }

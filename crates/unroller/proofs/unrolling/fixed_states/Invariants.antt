@@ -8,5 +8,5 @@ use Rattle.unroller.proofs.unrolling.fixed_states.Given as goal
 abbrev pub invariant-loop-state : goal.invariant-loop-state
 invariant-loop-state l = record {
   nodes : AreNodes l.net l.sources.items;
-  values : (w : ℕ → Bool) (k : ℕ) → k < l.state-index → value l.net w (read_node l.sources.items (leaf_of l.states k)) ≡ is_one (value_of l.values (bit_of l.states k))
+  values : (w : ℕ → Bool) (k : ℕ) → k < l.state-index → value l.net w (read_node l.sources.items (leaf_of l.states k)) ≡ is_one (value_of l.values (bit_of l.states k));
 }

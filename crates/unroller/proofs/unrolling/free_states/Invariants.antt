@@ -11,5 +11,5 @@ invariant-loop-state l = record {
   nodes : AreNodes l.net l.sources.items;
   count : l.leaves ≡ l.state-index;
   has : (i : ℕ) → has_leaf l.net i ≡ ltb i l.leaves;
-  values : (w : ℕ → Bool) (k : ℕ) → k < l.state-index → value l.net w (read_node l.sources.items (leaf_of l.states k)) ≡ w k
+  values : (w : ℕ → Bool) (k : ℕ) → k < l.state-index → value l.net w (read_node l.sources.items (leaf_of l.states k)) ≡ w k;
 }

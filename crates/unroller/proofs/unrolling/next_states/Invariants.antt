@@ -6,5 +6,5 @@ use Rattle.unroller.proofs.unrolling.next_states.Given as goal
 abbrev pub invariant-loop-state : goal.invariant-loop-state
 invariant-loop-state l = record {
   linked : (k : ℕ) → k < l.state-index → read_node l.sources.items (leaf_of l.states k) ≡ read_node l.copies (read_node l.nexts (bit_of l.states k));
-  nodes : (n : ℕ) → ((i : ℕ) → read_node l.initial.sources.items i < n) → ((i : ℕ) → read_node l.copies i < n) → (i : ℕ) → read_node l.sources.items i < n
+  nodes : (n : ℕ) → ((i : ℕ) → read_node l.initial.sources.items i < n) → ((i : ℕ) → read_node l.copies i < n) → (i : ℕ) → read_node l.sources.items i < n;
 }

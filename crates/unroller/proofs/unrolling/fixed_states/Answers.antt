@@ -1,0 +1,7 @@
+use Rattle.std.proofs.Common.{◌≡◌, length, arith}
+use Rattle.unroller.proofs.StepLaws.{started_power}
+use Rattle.unroller.proofs.unrolling.fixed_states.Goals as goal
+
+pub returns : goal.returns
+returns c =
+    started_power c.args.values.now c.args.states.now c.args.net.now c.loop-state.sources.items c.loop-state.state-index (omega arith) c.loop-state.invariant.nodes c.requires.none c.loop-state.invariant.values
