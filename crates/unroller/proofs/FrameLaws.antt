@@ -1,12 +1,13 @@
 -- One more cycle.
-use Rattle.std.proofs.Common.{◌≡◌, ℕ, ◌+◌, ◌<◌, ◌≤◌, Bool, true, false, cond, eqb, ltb, List, [], ◌∷◌, ◌++◌, map, length, get_or, take, arith, refl, sym, ap, subst, ◌∙◌, Option, Some, None, zero, suc, inl, inr, length-append, add-one}
+use Rattle.std.proofs.Common.{◌≡◌, ℕ, ◌+◌, ◌<◌, ◌≤◌, ◌||◌, ◌&&◌, Bool, true, false, cond, eqb, ltb, List, [], ◌∷◌, ◌++◌, map, length, get_or, take, arith, refl, sym, ap, subst, ◌∙◌, Option, Some, None, zero, suc, inl, inr, length-append, add-one}
 use Rattle.std.specs.List.{fold}
-use Rattle.std.proofs.lemmas.Bool.{cond-true, cond-false, eq-eqb, ne_eqb, cases_eq}
+use Rattle.std.proofs.lemmas.Bool.{cond-true, cond-false, eq-eqb, ne_eqb, cases_eq, cases_lt, le-ltb, false≢true, eqb-true}
 use Rattle.cyc_net.specs.declared.node.Node.{Node}
 use Rattle.cyc_net.specs.declared.cycle.BitLeaf.{BitLeaf}
 use Rattle.cyc_net.specs.declared.cycle.BitNode.{BitNode}
 use Rattle.cyc_net.specs.declared.cycle.CycleNet.{CycleNet}
-use Rattle.cyc_net.specs.Nets.{value, has_leaf, Extends}
+use Rattle.cyc_net.specs.Nets.{value, has_leaf, is_leaf, LeafBelow, LeavesBelow, Extends, gate_value, run, bit_at as done_at}
+use Rattle.cyc_net.specs.declared.node.Node.TheVariants as node
 use Rattle.cyc_net.specs.Cycles as cycles
 use Rattle.cyc_net.specs.Cycles.{IsCycleNet}
 use Rattle.cyc_net.proofs.NetLaws.{Extends-trans}
@@ -45,7 +46,7 @@ agree_append n [] qs w σ h k = subst (λ (m : ℕ). Agree m qs w σ) (omega ari
 agree_append n (p ∷ ps) qs w σ h k = (h.0, agree_append (n + 1) ps qs w σ h.1 (subst (λ (m : ℕ). Agree m qs w σ) (omega arith) k))
 
 -- two traces that are the same at the places
-abbrev Same : Trace → Trace → List Place → Type 0
+abbrev pub Same : Trace → Trace → List Place → Type 0
 Same σ τ [] = Unit {0}
 Same σ τ (p ∷ ps) = (σ p.cycle p.leaf ≡ τ p.cycle p.leaf) × Same σ τ ps
 
@@ -265,11 +266,33 @@ before_start c setup start old net sources leaves s = record {
       };
 }
 
+below_true : (i n : ℕ) → ltb i n ≡ true → i < n
+below_true i n h = elim (cases_lt i n) [ inl lt ↦ lt | inr ge ↦ absurd (false≢true (sym (le-ltb i n ge) ∙ h)) ]
+
+or_here : (x y : Bool) → x ≡ true → (x || y) ≡ true
+or_here x y h = ap (λ (b : Bool). b || y) h
+
+or_there : (x y : Bool) → y ≡ true → (x || y) ≡ true
+or_there true y h = refl
+or_there false y h = h
+
+leaf_below : (n : ℕ) (x : Node) → ((i : ℕ) → is_leaf i x ≡ true → i < n) → LeafBelow n x
+leaf_below n (node.Const b) h = tt
+leaf_below n (node.Leaf i) h = h i (eq-eqb i i refl)
+leaf_below n (node.And a b) h = tt
+leaf_below n (node.Xor a b) h = tt
+leaf_below n (node.Mux c a b) h = tt
+
+leaves_below : (n : ℕ) (net : List Node) → ((i : ℕ) → has_leaf net i ≡ true → i < n) → LeavesBelow n net
+leaves_below n [] h = tt
+leaves_below n (x ∷ xs) h = (leaf_below n x (λ i e. h i (or_here (is_leaf i x) (has_leaf xs i) e)), leaves_below n xs (λ i e. h i (or_there (is_leaf i x) (has_leaf xs i) e)))
+
 pub unrolled_end : (c : CycleNet) (setup : Fixed) (start : StartState) (t n : ℕ) (net : List Node) (sources : List ℕ) (leaves : ℕ) (frames : List (List BitNode)) → t ≡ n → Before c setup start t net sources leaves frames → IsUnrolled c setup n start (record { net = net; leaves = leaves; frames = frames })
 unrolled_end c setup start t n net sources leaves frames e b = record {
   count = b.long ∙ e;
   leaves = b.count ∙ ap (λ (m : ℕ). length (places c setup start m)) e;
   has = b.has;
+  below = leaves_below leaves net (λ i h. below_true i leaves (sym (b.has i) ∙ h));
   are = b.are;
   follows = λ w.
       let r = b.reached w in

@@ -1,3 +1,4 @@
 pub mod TableLaws
 pub mod StepLaws
 pub mod FrameLaws
+pub mod TraceLaws

@@ -5,7 +5,7 @@ use mathlib.Core.Bool.{not}
 use Rattle.cyc_net.specs.declared.cycle.BitLeaf.{BitLeaf}
 use Rattle.cyc_net.specs.declared.cycle.BitNode.{BitNode}
 use Rattle.cyc_net.specs.declared.cycle.CycleNet.{CycleNet}
-use Rattle.cyc_net.specs.Nets.{value, has_leaf}
+use Rattle.cyc_net.specs.Nets.{value, has_leaf, LeavesBelow}
 use Rattle.cyc_net.specs.declared.node.Node.{Node}
 use Rattle.unroller.specs.declared.frames.Unrolled.{Unrolled}
 use Rattle.unroller.specs.declared.setup.FixedBit.{FixedBit}
@@ -118,5 +118,12 @@ pub record IsUnrolled (c : CycleNet) (setup : Fixed) (frames : ℕ) (start : Sta
   pub count : length u.frames ≡ frames
   pub leaves : u.leaves ≡ length (places c setup start frames)
   pub has : (i : ℕ) → has_leaf u.net i ≡ ltb i u.leaves
+  pub below : LeavesBelow u.leaves u.net
   pub are : AreFrames c u.net u.frames
   pub follows : (w : ℕ → Bool) → Follows c setup start u.net u.frames w
+
+-- the frames follow each window, or run, whose leaves have the values w
+abbrev pub FollowsAll : CycleNet → Fixed → ℕ → StartState → Unrolled → Type 0
+FollowsAll c setup frames start u =
+    (σ : Trace) (w : ℕ → Bool) → IsTrace c setup start frames σ → Agree 0 (places c setup start frames) w σ
+    → (t k : ℕ) → t < frames → k < length c.bits → value u.net w (node_at (slice_index_or u.frames t []) k) ≡ value c.net (σ t) (node_at c.bits k)

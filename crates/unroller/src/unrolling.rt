@@ -1,7 +1,7 @@
 ghost use Rattle.std.specs.Prelude.{◌≡◌, ℕ, ◌+◌, ◌<◌, ◌||◌, ◌^◌, ◌++◌, ◌∷◌, [], List, Bool, eqb, ltb, false, length, map, IfOk, OnOk};
 ghost use Rattle.cyc_net.specs.Nets.{value, has_leaf, gate_value, ReadsBelow, Extends};
 ghost use Rattle.cyc_net.specs.Cycles.{IsCycleNet};
-ghost use Rattle.unroller.specs.Setups.{value_of, reset_value, or_some, next_of, leaf_of, bit_of, is_one, IsUnrolled};
+ghost use Rattle.unroller.specs.Setups.{value_of, reset_value, or_some, next_of, leaf_of, bit_of, is_one, IsUnrolled, FollowsAll};
 ghost use Rattle.unroller.specs.Steps.{Apart, Across, AreNodes, InputSays, Started, Given, Copied, Before};
 ghost use Rattle.unroller.specs.Tables.{read_value, read_node};
 ghost use Rattle.cyc_net.specs.declared.cycle.BitNode.{BitNode};
@@ -309,7 +309,8 @@ pub fn unroll(
     start: &StartState,
 ) -> Result<Unrolled, NoMemory>
     requires { IsCycleNet cycle.now }
-    ensures { IfOk result (λ unrolled. IsUnrolled cycle.now setup.now frames start.now unrolled) }
+    ensures unrolled { IfOk result (λ unrolled. IsUnrolled cycle.now setup.now frames start.now unrolled) }
+    ensures follows { IfOk result (λ unrolled. FollowsAll cycle.now setup.now frames start.now unrolled) }
 {
     let mut net = Net::new(alloc)?;
     let mut sources = Vec::new(alloc);

@@ -4,6 +4,7 @@ use Rattle.cyc_net.specs.declared.cycle.BitNode.{BitNode}
 use Rattle.unroller.specs.Steps.{Apart, Started, Before}
 use Rattle.unroller.proofs.StepLaws.{apart_second}
 use Rattle.unroller.proofs.FrameLaws.{before_start, unrolled_end}
+use Rattle.unroller.proofs.TraceLaws.{follows_all}
 use Rattle.unroller.proofs.unrolling.unroll.Goals as goal
 
 pub place_states-requires-clause-apart : goal.place_states-requires-clause-apart
@@ -24,6 +25,11 @@ loop-at-preserved c =
     subst (Before c.args.cycle.now c.args.setup.now c.args.start.now (c.loop-at.at + 1) c.step.new.net c.step.new.sources.items c.in_ok-frame.more) (sym c.in_ok-push.ensures.ok)
     (c.in_ok-frame.ensures c.args.start.now c.loop-at.done c.loop-at.invariant)
 
-pub returns : goal.returns
-returns c =
+pub returns-clause-unrolled : goal.returns-clause-unrolled
+returns-clause-unrolled c =
     unrolled_end c.args.cycle.now c.args.setup.now c.args.start.now c.loop-at.at c.args.frames c.loop-at.net c.loop-at.sources.items c.loop-at.leaves c.loop-at.done (omega arith) c.loop-at.invariant
+
+pub returns-clause-follows : goal.returns-clause-follows
+returns-clause-follows c =
+    follows_all c.args.cycle.now c.args.setup.now c.args.frames c.args.start.now (record { net = c.loop-at.net; leaves = c.loop-at.leaves; frames = c.loop-at.done }) c.requires
+    (unrolled_end c.args.cycle.now c.args.setup.now c.args.start.now c.loop-at.at c.args.frames c.loop-at.net c.loop-at.sources.items c.loop-at.leaves c.loop-at.done (omega arith) c.loop-at.invariant)
