@@ -1,0 +1,189 @@
+use crate::{Status, run};
+use bits_core::{File, FileList, Items, NoMemory};
+use shelf_io::{MemShelf, MemSink};
+use std::alloc::{AllocError, Global};
+use std::test::Fail;
+
+const MODULE: &[u8] = b"module m(input a, output y); assign y = a; endmodule";
+
+const ROW: &[u8] = b"CONNECTION,c1,m,a,m,y";
+
+const PROVED: &[u8] = b"PROVED c1\nTOTAL 1 proved 1 refuted 0 open 0 spent 0 large 0\n";
+
+fn words(alloc: Global, line: &[&str]) -> Result<Vec<String>, AllocError> {
+    let mut words = Vec::new(alloc);
+    for word in line {
+        words.push(String::from_str(alloc, word)?)?;
+    }
+    Ok(words)
+}
+
+fn file(alloc: Global, name: &[u8], text: &[u8]) -> Result<File, AllocError> {
+    Ok(File {
+        name: Items::of(name.to_vec(alloc)?),
+        bytes: Items::of(text.to_vec(alloc)?),
+    })
+}
+
+// A table `t.csv` and, unless it is empty, a source `m.v`.
+fn files(alloc: Global, table: &[u8], source: &[u8]) -> Result<FileList, NoMemory> {
+    let mut files = Items::new(alloc);
+    files.push(file(alloc, b"t.csv", table)?)?;
+    if !source.is_empty() {
+        files.push(file(alloc, b"m.v", source)?)?;
+    }
+    Ok(files)
+}
+
+// The status and the text of a call; the write of this number fails.
+fn call(
+    alloc: Global,
+    line: &[&str],
+    table: &[u8],
+    source: &[u8],
+    failing: Option<u64>,
+) -> Result<(Status, Vec<u8>), NoMemory> {
+    let line = words(alloc, line)?;
+    let mut numbers = Vec::new(alloc);
+    if let Some(number) = failing {
+        numbers.push(number)?;
+    }
+    let mut shelf = MemShelf::new(files(alloc, table, source)?, Vec::new(alloc));
+    let mut sink = MemSink::new(alloc, 400, numbers)?;
+    let status = run(alloc, line.as_slice(), &mut shelf, &mut sink);
+    Ok((status, sink.taken().to_vec(alloc)?))
+}
+
+// Whether `check --top m --table t.csv m.v` ends so.
+fn ends(
+    alloc: Global,
+    table: &[u8],
+    source: &[u8],
+    want: Status,
+    text: &[u8],
+) -> Result<bool, NoMemory> {
+    let line = ["check", "--top", "m", "--table", "t.csv", "m.v"];
+    let (status, taken) = call(alloc, &line, table, source, None)?;
+    Ok(status == want && taken.as_slice() == text)
+}
+
+#[test]
+fn rows_over_plain_modules(rt: HostRuntime) -> Result<(), Fail> {
+    let alloc = rt.alloc();
+    let refuted =
+        b"REFUTED c1 launch 0\n  input 0 m.a 1\nTOTAL 1 proved 0 refuted 1 open 0 spent 0 large 0\n".as_slice();
+    let nothing = b"TOTAL 0 proved 0 refuted 0 open 0 spent 0 large 0\n".as_slice();
+    let zero = b"module m(input a, output y); assign y = 1'b0; endmodule".as_slice();
+    let one = b"module m(input a, output y); assign y = 1'b1; endmodule".as_slice();
+    let quiet =
+        b"REFUTED c1 launch 0\nTOTAL 1 proved 0 refuted 1 open 0 spent 0 large 0\n".as_slice();
+    assert!(rt; ends(alloc, ROW, MODULE, Status::Done, PROVED)?);
+    assert!(rt; ends(alloc, ROW, zero, Status::Findings, refuted)?);
+    assert!(rt; ends(alloc, ROW, one, Status::Findings, quiet)?);
+    assert!(rt; ends(alloc, b"# none", MODULE, Status::Done, nothing)?);
+    assert!(rt; ends(alloc, b"", MODULE, Status::Done, nothing)?);
+    Ok(())
+}
+
+#[test]
+fn two_free_ports_and_several_rows(rt: HostRuntime) -> Result<(), Fail> {
+    let alloc = rt.alloc();
+    let source =
+        b"module m ( output y,input\tb , input a,output z );\nassign y=b ;endmodule\n".as_slice();
+    let table =
+        b"CONNECTION,c1,m,a,m,y\n\n# c\nCONNECTION,c2,m,b,m,y\nCONNECTION,c3,m,y,m,z\n".as_slice();
+    let text =
+        b"REFUTED c1 launch 0\n  input 0 m.a 1\nPROVED c2\nREFUTED c3 launch 0\n  input 0 m.z 1\nTOTAL 3 proved 1 refuted 2 open 0 spent 0 large 0\n".as_slice();
+    assert!(rt; ends(alloc, table, source, Status::Findings, text)?);
+    Ok(())
+}
+
+#[test]
+fn refusals(rt: HostRuntime) -> Result<(), Fail> {
+    let alloc = rt.alloc();
+    let source = b"REFUSED E00 NotYet\nAT m.v\n".as_slice();
+    let table = b"REFUSED E00 NotYet\nAT t.csv\n".as_slice();
+    let twice = b"CONNECTION,c1,m,a,m,y\nCONNECTION,c1,m,a,m,y".as_slice();
+    assert!(rt; ends(alloc, ROW, b"module m(input a", Status::Refused, source)?);
+    assert!(rt;
+        ends(
+            alloc,
+            b"x",
+            b"module n(input a);endmodule",
+            Status::Refused,
+            source
+        )?
+    );
+    assert!(rt;
+        ends(
+            alloc,
+            ROW,
+            b"module m(input a,output y);assign y=y;endmodule",
+            Status::Refused,
+            source
+        )?
+    );
+    assert!(rt;
+        ends(
+            alloc,
+            ROW,
+            b"module m(input a,output reg);endmodule",
+            Status::Refused,
+            source
+        )?
+    );
+    assert!(rt;
+        ends(
+            alloc,
+            b"CONNECTION,c1,m,a,m,z",
+            MODULE,
+            Status::Refused,
+            table
+        )?
+    );
+    assert!(rt; ends(alloc, twice, MODULE, Status::Refused, table)?);
+    assert!(rt; ends(alloc, ROW, b"", Status::ReadFault, b"READFAULT m.v\n")?);
+    Ok(())
+}
+
+#[test]
+fn other_ends(rt: HostRuntime) -> Result<(), Fail> {
+    let alloc = rt.alloc();
+    let swapped = ["check", "--table", "t.csv", "--top", "m", "m.v"];
+    let short = ["check", "--top", "m"];
+    let (status, taken) = call(alloc, &swapped, ROW, MODULE, None)
+        .ok()
+        .ok_or("memory")?;
+    assert_eq!(rt; status, Status::Done);
+    assert!(rt; taken.as_slice() == PROVED);
+    let (status, taken) = call(alloc, &short, ROW, MODULE, None).ok().ok_or("memory")?;
+    assert_eq!(rt; status, Status::BadWords);
+    assert!(rt; taken.as_slice() == b"BADWORDS\n".as_slice());
+    let (status, taken) = call(alloc, &swapped, ROW, MODULE, Some(0))
+        .ok()
+        .ok_or("memory")?;
+    assert_eq!(rt; status, Status::WriteFault);
+    assert!(rt; taken.is_empty());
+    let (status, taken) = call(alloc, &swapped, ROW, MODULE, Some(1))
+        .ok()
+        .ok_or("memory")?;
+    assert_eq!(rt; status, Status::WriteFault);
+    assert!(rt; taken.as_slice() == b"PROVED c1\n".as_slice());
+    Ok(())
+}
+
+#[test]
+fn a_file_that_is_too_long(rt: HostRuntime) -> Result<(), Fail> {
+    let alloc = rt.alloc();
+    let long = vec![in alloc; b' '; 16_777_217]?;
+    assert!(rt;
+        ends(
+            alloc,
+            ROW,
+            long.as_slice(),
+            Status::Limit,
+            b"LIMIT L01 FileBytes 16777216\n"
+        )?
+    );
+    Ok(())
+}
