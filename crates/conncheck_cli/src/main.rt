@@ -8,8 +8,8 @@ use conncheck::{Status, run};
 use real_shelf::RealShelf;
 use real_sink::RealSink;
 use std::alloc::Global;
-use std::env;
 use std::process::ExitCode;
+use std::{env, io};
 
 const USAGE: &str = "usage: conncheck check --top M --table F FILE";
 
@@ -17,7 +17,8 @@ const USAGE: &str = "usage: conncheck check --top M --table F FILE";
 fn words_after_name(rt: &HostRuntime, alloc: Global) -> Option<Vec<String>> {
     match env::args(rt) {
         Ok(words) => words.skip(1).collect(alloc).ok(),
-        Err(_) => Some(Vec::new(alloc)),
+        Err(error) if error.kind() == io::ErrorKind::InvalidData => Some(Vec::new(alloc)),
+        Err(_) => None,
     }
 }
 
