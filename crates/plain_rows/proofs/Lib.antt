@@ -3,3 +3,4 @@ pub mod EndLaws
 pub mod LeafLaws
 pub mod RowLaws
 pub mod SoundLaws
+pub mod AssignLaws

@@ -21,14 +21,14 @@ get_kept [] ys k x e = cc
 get_kept (y ∷ xs) ys zero x e = e
 get_kept (y ∷ xs) ys (suc k) x e = get_kept xs ys k x e
 
-set_other : (xs : List Slot) (i k : ℕ) (v : Slot) → (i ≡ k → ⊥) → slice_get (slice_set xs i v) k ≡ slice_get xs k
+pub set_other : (xs : List Slot) (i k : ℕ) (v : Slot) → (i ≡ k → ⊥) → slice_get (slice_set xs i v) k ≡ slice_get xs k
 set_other [] i k v ne = refl
 set_other (x ∷ xs) zero zero v ne = absurd (ne refl)
 set_other (x ∷ xs) zero (suc k) v ne = refl
 set_other (x ∷ xs) (suc i) zero v ne = refl
 set_other (x ∷ xs) (suc i) (suc k) v ne = set_other xs i k v (λ e. ne (ap suc e))
 
-set_same : (xs : List Slot) (i : ℕ) (v y : Slot) → slice_get xs i ≡ Some y → slice_get (slice_set xs i v) i ≡ Some v
+pub set_same : (xs : List Slot) (i : ℕ) (v y : Slot) → slice_get xs i ≡ Some y → slice_get (slice_set xs i v) i ≡ Some v
 set_same [] i v y e = cc
 set_same (x ∷ xs) zero v y e = refl
 set_same (x ∷ xs) (suc i) v y e = set_same xs i v y e
@@ -43,7 +43,7 @@ empty_good : IsGood (record { names = []; slots = [] })
 empty_good = record { inputs_free = λ k s e i. cc; reads_inputs = λ j k e. cc; even = refl }
 
 -- a place of a list with one item more
-one_more : (xs : List Slot) (x : Slot) (k : ℕ) (P : Option Slot → Type 0) → (slice_get xs k ≡ None → P (Some x)) → (slice_get xs k ≡ None → P None)
+pub one_more : (xs : List Slot) (x : Slot) (k : ℕ) (P : Option Slot → Type 0) → (slice_get xs k ≡ None → P (Some x)) → (slice_get xs k ≡ None → P None)
     → ((y : Slot) → slice_get xs k ≡ Some y → P (Some y)) → P (slice_get (xs ++ (x ∷ [])) k)
 one_more [] x zero P new none old = new refl
 one_more [] x (suc k) P new none old = none refl

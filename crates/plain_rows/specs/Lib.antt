@@ -1,3 +1,4 @@
 pub mod Verdicts
 pub mod Plain
 pub mod Seen
+pub mod Laws

@@ -2,5 +2,7 @@
 #![tactic(auto)]
 
 mod decide;
+mod laws;
 
 pub use decide::{Verdict, decide_row};
+pub use laws::drivers_are_assigns;
