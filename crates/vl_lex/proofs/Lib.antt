@@ -1,6 +1,15 @@
 pub mod Bare
 pub mod Bounds
 pub mod Counts
+pub mod Expands
+pub mod Gates
+pub mod Gives
 pub mod Reach
+pub mod Rows
 pub mod Scans
+pub mod Sources
+pub mod Tables
+pub mod Tops
 pub mod Turns
+pub mod Values
+pub mod Walks

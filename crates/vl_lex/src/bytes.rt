@@ -105,3 +105,14 @@ pub fn line_len(bytes: &[u8]) -> usize
 {
     bytes.iter().take_while(|byte| **byte != b'\n').count()
 }
+
+/// The first bytes, all where there are no more.
+pub fn front(bytes: &[u8], len: usize) -> &[u8]
+    ensures { result.now ≡ take len bytes.now }
+{
+    if len <= bytes.len() {
+        &bytes[..len]
+    } else {
+        bytes
+    }
+}

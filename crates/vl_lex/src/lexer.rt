@@ -3,7 +3,7 @@ ghost use Rattle.vl_lex.specs.Lexed as spec;
 ghost use Rattle.vl_tree.specs.declared.faults.Place.TheVariants as place;
 ghost use Rattle.vl_tree.specs.declared.faults.Stop.TheVariants as stop;
 
-use crate::bytes::rest_from;
+use crate::bytes::{front, rest_from};
 use crate::pieces::{Piece, next_piece};
 use bits_core::Items;
 use std::alloc::Global;
@@ -24,19 +24,8 @@ pub struct Cursor {
     pub row: u32,
 }
 
-/// The first bytes, all where there are no more.
-fn front(bytes: &[u8], len: usize) -> &[u8]
-    ensures { result.now ≡ take len bytes.now }
-{
-    if len <= bytes.len() {
-        &bytes[..len]
-    } else {
-        bytes
-    }
-}
-
 #[tactic(auto, using(crate::proofs::Counts::counted))]
-fn newlines(text: &[u8]) -> usize
+pub fn newlines(text: &[u8]) -> usize
     ensures value { result ≡ spec.newlines text.now }
     ensures within { result ≤ length text.now }
 {

@@ -1,8 +1,20 @@
-//! The tokens of a source.
+//! The tokens of a source, and the tokens that are kept when its directives are obeyed (IEEE 1364-2005, sections 3 and 19).
 #![tactic(auto)]
 
+mod branches;
 mod bytes;
+mod directives;
+mod expansion;
+mod files;
+mod gate;
 mod lexer;
+mod macros;
+mod numbers;
 mod pieces;
+mod preprocessor;
+mod state;
+mod walk;
 
+pub use files::Files;
 pub use lexer::lex;
+pub use preprocessor::{Walk, preprocess};
