@@ -14,3 +14,4 @@ pub mod SeenLaws
 pub mod PlainLaws
 pub mod RunLaws
 pub mod ComputedLaws
+pub mod DesignLaws

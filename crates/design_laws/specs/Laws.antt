@@ -2,9 +2,13 @@
 use Rattle.std.specs.Prelude.{◌≡◌, ℕ, ◌+◌, ◌<◌, ◌≤◌, Bool, true, false, ◌||◌, List, length, map, ◌↔◌, Option, Some, None}
 use Rattle.std.specs.List.{filter}
 use Rattle.design_core.specs.declared.place.BitRef.{BitRef}
+use Rattle.design_core.specs.declared.items.Item.{Item}
+use Rattle.design_core.specs.declared.design.Design.{Design}
+use Rattle.design_core.specs.Parts.{length_at}
+use Rattle.design_core.specs.Wellformed.{item_fits, signal_lengths, carried_weight, weight_of, silent_stmt}
 use Rattle.design_core.specs.Core.{Assignment, Term, Stmt, St, value, exec, reads, stmt_reads, drives}
 use Rattle.design_core.specs.Covers.{Completes}
-use Rattle.design_core.specs.Cells.{Bitmap, Cell, In, driven, IsOrdered, Holds, Settled, IsSlice, IsClosedFrom, IsSliceOf, read_by, cell_reads}
+use Rattle.design_core.specs.Cells.{Bitmap, Cell, In, driven, IsOrdered, Holds, Settled, IsTrace, IsSlice, IsClosedFrom, IsSliceOf, read_by, cell_reads}
 use Rattle.design_core.specs.Rows.{Row, row_bit, IsAmong, CanBreak, IsValid, IsChecked}
 use Rattle.design_core.specs.Items.{CoreItem, cell_of, item_reads, IsGood}
 use Rattle.design_core.specs.Plain.{IsLeft, stored_next}
@@ -145,3 +149,21 @@ FreeLaunch = (ps : List Process) (pins : List (BitRef × Bool)) (reset : Option 
 abbrev pub FreeBySet : Type 0
 FreeBySet = (ps : List Process) (row : Row BitRef) (Q : ℕ → BitRef → Bool)
     → IsFreeReach (process_cells ps) (needs_in ps) (λ k b. Q k b ≡ true) → IsReached (λ k b. Q k b ≡ true) row → IsLaunchFree (process_cells ps) (needs_in ps) row
+
+-- each item of a design fits it, and weighs what it carries
+abbrev pub ItemsFit : Type 0
+ItemsFit = (design : Design) (i : Item) → In i design.items → item_fits (signal_lengths design.signals) (length_at design.signals) (length design.scopes) i ≡ true
+
+abbrev pub ItemsWeigh : Type 0
+ItemsWeigh = (design : Design) (i : Item) → In i design.items → carried_weight i ≡ weight_of (signal_lengths design.signals) i
+
+-- what is silent, as the reset branches of a design are, reads no signal
+abbrev pub SilentReadsNothing : Type 0
+SilentReadsNothing = (s : Stmt) (b : BitRef) → silent_stmt s ≡ true → stmt_reads s b ≡ false
+
+-- a window or run is what its first state and its inputs make of it
+abbrev pub TraceIsComputed : Type 0
+TraceIsComputed = (E : List (Cell BitRef)) (held : ℕ → BitRef → Option Bool) → IsChecked E held → (last : ℕ) (s σ t τ : ℕ → Bitmap BitRef)
+    → IsTrace E held last s σ → IsTrace E held last t τ → ((b : BitRef) → s 0 b ≡ t 0 b)
+    → ((k : ℕ) → k ≤ last → (b : BitRef) → driven E b ≡ false → σ k b ≡ τ k b)
+    → (k : ℕ) → k ≤ last → (b : BitRef) → σ k b ≡ τ k b

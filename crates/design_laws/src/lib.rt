@@ -4,7 +4,7 @@
 
 ghost use Rattle.std.specs.Prelude.{ℕ, List};
 ghost use Rattle.design_core.specs.declared.place.BitRef.{BitRef};
-ghost use Rattle.design_laws.specs.Laws.{ValueByReads, ExecByReads, ExecByDrives, CaseCovers, SettlesOnce, SettledPlain, NextPlain, ReadsPlain, CutIsOrdered, CutIsSound, UnblockedBreaks, SliceIsClosed, SliceIsOne, SliceDecides, SliceFirst, SliceAlone, NamesDecide, NamesFirst, OrderIsFree, RunHasWindow, BitsDecide, HeldAreInputs, NeedsDecide, FreeLaunch, FreeBySet};
+ghost use Rattle.design_laws.specs.Laws.{ValueByReads, ExecByReads, ExecByDrives, CaseCovers, SettlesOnce, SettledPlain, NextPlain, ReadsPlain, CutIsOrdered, CutIsSound, UnblockedBreaks, SliceIsClosed, SliceIsOne, SliceDecides, SliceFirst, SliceAlone, NamesDecide, NamesFirst, OrderIsFree, RunHasWindow, BitsDecide, HeldAreInputs, NeedsDecide, FreeLaunch, FreeBySet, ItemsFit, ItemsWeigh, SilentReadsNothing, TraceIsComputed};
 
 /// Values and bodies depend on the bits that they read alone, and a body changes the bits that it drives alone.
 pub fn bodies_by_bits()
@@ -79,4 +79,16 @@ pub fn free_launch()
     ensures needs { NeedsDecide }
     ensures breaks { FreeLaunch }
     ensures by_set { FreeBySet }
+{}
+
+/// Each item of a design is formed and weighs what it carries, and its reset branch reads no signal.
+pub fn designs_keep()
+    ensures fit { ItemsFit }
+    ensures weigh { ItemsWeigh }
+    ensures silent { SilentReadsNothing }
+{}
+
+/// Two windows or runs of a checked design with the same first state and the same inputs are the same.
+pub fn traces_are_computed()
+    ensures { TraceIsComputed }
 {}
