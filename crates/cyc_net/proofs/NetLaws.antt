@@ -1,9 +1,9 @@
 -- A net that has grown.
-use Rattle.std.proofs.Common.{true, take, ◌≡◌, ℕ, suc, zero, ◌+◌, ◌<◌, ◌≤◌, Bool, false, ◌||◌, List, [], ◌∷◌, ◌++◌, length, get_or, set, refl, sym, ap, ◌∙◌, arith, length-append, subst, ap₂, cond}
+use Rattle.std.proofs.Common.{true, take, drop, ◌≡◌, ℕ, suc, zero, ◌+◌, ◌<◌, ◌≤◌, Bool, false, ◌||◌, List, [], ◌∷◌, ◌++◌, length, get_or, set, refl, sym, ap, ◌∙◌, arith, length-append, subst, ap₂, cond}
 use Rattle.std.proofs.Math.ListN.{get_or-append}
 use Rattle.std.proofs.Math.Seq.{get_or-append_seam}
 use mathlib.Core.Bool.{◌&&◌, not, beq}
-use Rattle.std.proofs.lemmas.List.{take_more, take_more_set}
+use Rattle.std.proofs.lemmas.List.{take_more, take_more_set, drop_more, drop_all}
 use Rattle.std.proofs.Math.Seq.{get_or-take}
 use Rattle.cyc_net.specs.declared.node.Node.{Node}
 use Rattle.cyc_net.specs.declared.node.Node.TheVariants.{Const, Leaf, And, Xor, Mux}
@@ -150,3 +150,18 @@ value_gate net v k d all lt = ap (λ (j : ℕ). get_or (run v [] net) j false) (
 
 pub reads_all : (net : List Node) (n : ℕ) (d : Node) → AllRead 0 net → n < length net → ReadsBelow n (get_or net n d)
 reads_all net n d all lt = subst (λ (k : ℕ). ReadsBelow k (get_or net n d)) (omega arith) (reads_at_from 0 net n d all lt)
+
+below_here : (n : ℕ) (net : List Node) (i : ℕ) (d : Node) → i < length net → LeavesBelow n (drop i net) → LeafBelow n (get_or net i d) × LeavesBelow n (drop (i + 1) net)
+below_here n net i d lt h = subst (LeavesBelow n) (drop_more net i d lt) h
+
+pub below_on : (n : ℕ) (net : List Node) (i : ℕ) (d : Node) → i < length net → (LeavesBelow n (drop i net) → LeavesBelow n net) → LeafBelow n (get_or net i d) → LeavesBelow n (drop (i + 1) net) → LeavesBelow n net
+below_on n net i d lt to here rest = to (subst (LeavesBelow n) (sym (drop_more net i d lt)) (here, rest))
+
+pub below_rest : (n : ℕ) (net : List Node) (i : ℕ) (d : Node) → i < length net → (LeavesBelow n net → LeavesBelow n (drop i net)) → LeavesBelow n net → LeavesBelow n (drop (i + 1) net)
+below_rest n net i d lt from all = (below_here n net i d lt (from all)).1
+
+pub below_none : (n : ℕ) (net : List Node) (i : ℕ) (d : Node) → i < length net → (LeavesBelow n net → LeavesBelow n (drop i net)) → (LeafBelow n (get_or net i d) → ⊥) → LeavesBelow n net → ⊥
+below_none n net i d lt from off all = off (below_here n net i d lt (from all)).0
+
+pub below_end : (n : ℕ) (net : List Node) (i : ℕ) → length net ≤ i → LeavesBelow n (drop i net)
+below_end n net i le = subst (LeavesBelow n) (sym (drop_all i net le)) tt

@@ -8,3 +8,6 @@ mod node;
 pub use cycle::{BitLeaf, BitNode, CycleNet, LeafList, NodeList};
 pub use net::Net;
 pub use node::{Node, NodeId};
+
+#[cfg(test)]
+mod tests;

@@ -91,6 +91,20 @@ impl Net {
         Ok(at as NodeId)
     }
 
+    /// Whether the number of each leaf is below a count. Linear in the net; takes no memory.
+    pub fn leaves_below(&self, count: usize) -> bool
+        ensures below { result ≡ true → LeavesBelow count self.now }
+        ensures above { result ≡ false → LeavesBelow count self.now → ⊥ }
+    {
+        let nodes = self.nodes.as_slice();
+        for at in 0..nodes.len() {
+            if !leaf_below(nodes[at], count) {
+                return false;
+            }
+        }
+        true
+    }
+
     /// The value of each node, where `leaves` has a value for each leaf. Linear in the net; takes no memory.
     pub fn eval_into(&self, leaves: &[bool], out: &mut [bool])
         requires leaves { LeavesBelow (length leaves.now) self.now }
@@ -102,6 +116,16 @@ impl Net {
             let value = gate(nodes[at], leaves, out);
             out[at] = value;
         }
+    }
+}
+
+fn leaf_below(node: Node, count: usize) -> bool
+    ensures below { result ≡ true → LeafBelow count node }
+    ensures above { result ≡ false → LeafBelow count node → ⊥ }
+{
+    match node {
+        Node::Leaf(number) => (number as usize) < count,
+        _ => true,
     }
 }
 

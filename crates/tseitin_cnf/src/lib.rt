@@ -6,3 +6,6 @@ mod encoding;
 mod marking;
 
 pub use encoding::{Encoded, encode};
+
+#[cfg(test)]
+mod tests;
