@@ -15,3 +15,4 @@ pub mod PlainLaws
 pub mod RunLaws
 pub mod ComputedLaws
 pub mod DesignLaws
+pub mod CoverageLaws

@@ -4,6 +4,7 @@
 
 ghost use Rattle.std.specs.Prelude.{ℕ, List};
 ghost use Rattle.design_core.specs.declared.place.BitRef.{BitRef};
+ghost use Rattle.design_laws.specs.Coverage.{CoversAlways};
 ghost use Rattle.design_laws.specs.Laws.{ValueByReads, ExecByReads, ExecByDrives, CaseCovers, SettlesOnce, SettledPlain, NextPlain, ReadsPlain, CutIsOrdered, CutIsSound, UnblockedBreaks, SliceIsClosed, SliceIsOne, SliceDecides, SliceFirst, SliceAlone, NamesDecide, NamesFirst, OrderIsFree, RunHasWindow, BitsDecide, HeldAreInputs, NeedsDecide, FreeLaunch, FreeBySet, ItemsFit, ItemsWeigh, SilentReadsNothing, TraceIsComputed};
 
 /// Values and bodies depend on the bits that they read alone, and a body changes the bits that it drives alone.
@@ -13,9 +14,10 @@ pub fn bodies_by_bits()
     ensures drives { ExecByDrives }
 {}
 
-/// A `case` of which some item always matches may take its last arm untested.
+/// A `case` of which some item always matches may take its last arm untested, and a test over all values of the selector tells that.
 pub fn case_covers()
-    ensures { CaseCovers }
+    ensures untested { CaseCovers }
+    ensures always { CoversAlways }
 {}
 
 /// An ordered design has exactly one settled assignment for each stored state and input.
