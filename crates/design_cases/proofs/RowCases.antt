@@ -1,5 +1,5 @@
 -- The worked rows.
-use Rattle.std.proofs.Common.{◌≡◌, ℕ, zero, suc, ◌+◌, ◌<◌, Bool, true, false, not, ◌&&◌, ◌||◌, [], ◌∷◌, map, inl, refl, sym, ◌∙◌, ap, ap₂, subst, Some, None, arith, if◌then◌else◌}
+use Rattle.std.proofs.Common.{◌≡◌, ℕ, zero, suc, ◌+◌, ◌<◌, Bool, true, false, not, ◌&&◌, ◌||◌, [], ◌∷◌, map, inl, refl, sym, ◌∙◌, ap, ap₂, subst, Some, None, arith, if◌then◌else◌, List}
 use Rattle.std.specs.Prelude.{◌==◌}
 use Rattle.std.proofs.lemmas.Bool.Decides.{nat_tests}
 use Rattle.bits_core.specs.Numbers.{number, bits_of, sum_bits}
@@ -16,11 +16,12 @@ use Rattle.design_core.proofs.TermLaws.{term_signal, term_extend, term_binary, l
 use Rattle.design_core.specs.Cells.{settle, Bitmap, In, driven, IsOrdered}
 use Rattle.design_core.specs.Items.{CoreItem, assign, comb, clocked, reset_by, cell_of, IsGood, start}
 use Rattle.design_core.specs.Rows.{CanBreak}
+use Rattle.design_core.specs.Leaves.{IsNoLater}
 use Rattle.design_core.specs.Setups.{held_in_window, held_in_run}
 use Rattle.design_core.proofs.BoolLaws.{if_true}
 use Rattle.design_laws.proofs.TraceLaws.{states, assigned}
 use Rattle.design_laws.proofs.ComputedLaws.{computed}
-use Rattle.design_cases.specs.WorkedRows.{read, wire, of, row, anded, sum_of, load, clear, no_power, through, ThroughIsProved, grounded, GroundedIsRefuted, gated, GatedByCondition, piped, PipedByTwo, enabled, EnabledByCondition, kept, g_is_set, KeptStaysOpen, cleared, ClearedAtLaunchOne, carried, CarriedByCondition, reset_low, ResetIsReleased, one_of, longer, sum_tree, TreeIsRead, item_test, arm_low, arm_high, switched, SwitchedByCondition}
+use Rattle.design_cases.specs.WorkedRows.{read, wire, of, row, anded, sum_of, load, clear, no_power, through, ThroughIsProved, grounded, GroundedIsRefuted, GroundedFirst, gated, GatedByCondition, piped, PipedByTwo, enabled, EnabledByCondition, kept, g_is_set, KeptStaysOpen, cleared, ClearedAtLaunchOne, carried, CarriedByCondition, reset_low, ResetIsReleased, one_of, longer, sum_tree, TreeIsRead, item_test, arm_low, arm_high, switched, SwitchedByCondition}
 use Rattle.design_cases.proofs.RowTools.{no_fixed, good_assign, only_one, both_good, checked_window, checked_run, no_reset, pair_is, valid_when, breaks_so, window_so, none_between}
 
 -- y = a
@@ -330,4 +331,33 @@ switched_by_condition = record {
   good = switched_good;
   is_kind = valid_when (map cell_of switched) (held_in_window [] (Some (of 2, false))) 0 4 0 ((of 3, false) ∷ []) (checked_window switched (Some (of 2, false)) switched_ordered switched_good switched_free)
       (λ s i met held. first_taken s (settle (map cell_of (reset_by (of 2) false (write (wire 1) (constant (false ∷ [])) false) (write (wire 1) (read 0) false) ∷ [])) s (i 0)) (met 0 (omega arith) (of 3, false) (inl refl)));
+}
+
+-- the first breaking run of y = 0
+abbrev grounded_breaks : CanBreak (map cell_of grounded) (held_in_run [] None 0) (Some no_power) (row 0 1 0 []) 0
+grounded_breaks = breaks_so (map cell_of grounded) (held_in_run [] None 0) no_power (λ k b. same_bit b (of 0)) (row 0 1 0 [])
+    0 (checked_run grounded None 0 grounded_ordered grounded_good (no_reset (map cell_of grounded)))
+    (record { met = λ k l c m. elim m [ ]; pair = (of 0, of 1); is_one = inl refl; differs = refl })
+
+turned_once : (a : Bool) → not a ≡ false → a ≡ true
+turned_once true h = refl
+turned_once false h = cc
+
+only_high : (w : CanBreak (map cell_of grounded) (held_in_run [] None 0) (Some no_power) (row 0 1 0 []) 0) → w.σ 0 (of 0) ≡ true
+only_high w =
+    let E = map cell_of grounded in
+    let c = checked_run grounded None 0 grounded_ordered grounded_good (no_reset E) in
+    let same = computed E (held_in_run [] None 0) c 0 w.s w.σ w.trace in
+    let p = pair_is w.breaks.pair (of 0, of 1) w.breaks.is_one in
+    turned_once (w.σ 0 (of 0)) (
+    sym (ap (λ (q : BitRef × BitRef). not (w.σ 0 q.0)) p) ∙ sym w.breaks.differs ∙ ap (λ (q : BitRef × BitRef). w.σ 0 q.1) p ∙ same 0 (omega arith) (of 1))
+
+no_later : (a : Bool) (other : List Bool) → a ≡ true → a ∷ [] ≡ other → IsNoLater (true ∷ []) other
+no_later a other h e = let P : List Bool → Type 0 = λ v. IsNoLater (true ∷ []) v in subst P (sym (ap (λ x. x ∷ []) h) ∙ e) tt
+
+pub grounded_first : GroundedFirst
+unfolding breaks_so
+grounded_first = record {
+  breaks = record { can = grounded_breaks; has = refl };
+  none_before = λ other w. no_later (w.can.σ 0 (of 0)) other (only_high w.can) w.has;
 }

@@ -84,7 +84,7 @@ abbrev pub or_value : Option Bool → Bool → Bool
 or_value None d = d
 or_value (Some v) d = v
 
-value_of_some : (x : Option Bool) (d v : Bool) → x ≡ Some v → or_value x d ≡ v
+pub value_of_some : (x : Option Bool) (d v : Bool) → x ≡ Some v → or_value x d ≡ v
 value_of_some None d v h = cc
 value_of_some (Some u) d v h = cc
 
@@ -93,7 +93,7 @@ abbrev pub stimulus : (ℕ → BitRef → Option Bool) → (ℕ → BitRef → B
 stimulus held f k b = or_value (held k b) (f k b)
 
 -- a run from power-up with these inputs that breaks the row
-pub breaks_so : (E : List (Cell BitRef)) (held : ℕ → BitRef → Option Bool) (p : Bitmap BitRef) (f : ℕ → BitRef → Bool) (r : Row BitRef) (launch : ℕ) → IsChecked E held
+unfoldable pub breaks_so : (E : List (Cell BitRef)) (held : ℕ → BitRef → Option Bool) (p : Bitmap BitRef) (f : ℕ → BitRef → Bool) (r : Row BitRef) (launch : ℕ) → IsChecked E held
     → Breaks r launch (assigned E p (stimulus held f)) → CanBreak E held (Some p) r launch
 breaks_so E held p f r launch checked b = record {
   s = states E p (stimulus held f);

@@ -16,6 +16,7 @@ use Rattle.bits_core.specs.Places.{is_set, extended}
 use Rattle.design_core.specs.Cells.{Bitmap, In, IsOrdered}
 use Rattle.design_core.specs.Items.{CoreItem, assign, comb, clocked, reset_by, cell_of, IsGood}
 use Rattle.design_core.specs.Rows.{Row, Kind, proved, refuted, «open», IsKind}
+use Rattle.design_core.specs.Leaves.{input, IsFirstBreak}
 use Rattle.design_core.specs.Setups.{held_in_window, held_in_run}
 
 -- signal s of one bit, read and written
@@ -152,3 +153,7 @@ switched = reset_by (of 2) false (write (wire 1) (constant (false ∷ [])) false
 
 abbrev pub SwitchedByCondition : Type 0
 SwitchedByCondition = Comes switched (Some (of 2, false)) 2 no_power (row 0 4 0 ((of 3, false) ∷ [])) proved
+
+-- y = 1'b0: of the breaking values of the leaf, a in cycle 0, the first is 1, as it is printed
+abbrev pub GroundedFirst : Type 0
+GroundedFirst = IsFirstBreak (map cell_of grounded) (held_in_run [] None 0) (Some no_power) (row 0 1 0 []) 0 (input 0 (of 0) ∷ []) (true ∷ [])

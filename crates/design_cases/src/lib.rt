@@ -1,7 +1,7 @@
 //! Worked cases of the definitions: each operator, and small designs with their rows. Each is a function with an empty body whose contract is the case.
 #![tactic(auto)]
 
-ghost use Rattle.design_cases.specs.WorkedRows.{ThroughIsProved, GroundedIsRefuted, GatedByCondition, PipedByTwo, EnabledByCondition, KeptStaysOpen, ClearedAtLaunchOne, CarriedByCondition, ResetIsReleased, SwitchedByCondition, TreeIsRead};
+ghost use Rattle.design_cases.specs.WorkedRows.{ThroughIsProved, GroundedIsRefuted, GroundedFirst, GatedByCondition, PipedByTwo, EnabledByCondition, KeptStaysOpen, ClearedAtLaunchOne, CarriedByCondition, ResetIsReleased, SwitchedByCondition, TreeIsRead};
 ghost use Rattle.design_cases.specs.TreeRows.{ExtendRows, CompareRows, FillRows, IndexRows, PartRows, CallRows, FreeRows, ResetRows};
 ghost use Rattle.design_cases.specs.OperatorRows.{UnaryRows, ArithmeticRows, BitwiseRows, LessRows, SignRows, EqualRows, ShiftRows, JoinRows, SelectRows, MatchRows, WriteRows};
 
@@ -24,6 +24,7 @@ pub fn operators_as_worked()
 pub fn rows_as_worked()
     ensures through { ThroughIsProved }
     ensures grounded { GroundedIsRefuted }
+    ensures first { GroundedFirst }
     ensures gated { GatedByCondition }
     ensures piped { PipedByTwo }
     ensures enabled { EnabledByCondition }
