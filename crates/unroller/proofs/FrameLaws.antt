@@ -1,12 +1,12 @@
 -- One more cycle.
-use Rattle.std.proofs.Common.{◌≡◌, ℕ, ◌+◌, ◌<◌, ◌≤◌, ◌||◌, ◌&&◌, Bool, true, false, cond, eqb, ltb, List, [], ◌∷◌, ◌++◌, map, length, get_or, take, arith, refl, sym, ap, subst, ◌∙◌, Option, Some, None, zero, suc, inl, inr, length-append, add-one}
+use Rattle.std.proofs.Common.{◌≡◌, ℕ, ◌+◌, ◌<◌, ◌≤◌, ◌||◌, Bool, true, false, cond, eqb, ltb, List, [], ◌∷◌, ◌++◌, map, length, get_or, take, arith, refl, sym, ap, subst, ◌∙◌, Option, Some, None, zero, suc, inl, inr, length-append, add-one}
 use Rattle.std.specs.List.{fold}
-use Rattle.std.proofs.lemmas.Bool.{cond-true, cond-false, eq-eqb, ne_eqb, cases_eq, cases_lt, le-ltb, false≢true, eqb-true}
+use Rattle.std.proofs.lemmas.Bool.{cond-true, cond-false, eq-eqb, ne_eqb, cases_eq, cases_lt, le-ltb, false≢true}
 use Rattle.cyc_net.specs.declared.node.Node.{Node}
 use Rattle.cyc_net.specs.declared.cycle.BitLeaf.{BitLeaf}
 use Rattle.cyc_net.specs.declared.cycle.BitNode.{BitNode}
 use Rattle.cyc_net.specs.declared.cycle.CycleNet.{CycleNet}
-use Rattle.cyc_net.specs.Nets.{value, has_leaf, is_leaf, LeafBelow, LeavesBelow, Extends, gate_value, run, bit_at as done_at}
+use Rattle.cyc_net.specs.Nets.{value, has_leaf, is_leaf, LeafBelow, LeavesBelow, Extends}
 use Rattle.cyc_net.specs.declared.node.Node.TheVariants as node
 use Rattle.cyc_net.specs.Cycles as cycles
 use Rattle.cyc_net.specs.Cycles.{IsCycleNet}
@@ -14,11 +14,10 @@ use Rattle.cyc_net.proofs.NetLaws.{Extends-trans}
 use Rattle.unroller.specs.declared.setup.Fixed.{Fixed}
 use Rattle.unroller.specs.declared.setup.StartState.{StartState}
 use Rattle.unroller.specs.declared.setup.StartState.TheVariants.{Free, PowerUp}
-use Rattle.unroller.specs.declared.frames.Unrolled.{Unrolled}
-use Rattle.unroller.specs.Setups.{no_node, leaf_of, bit_of, bit_at, node_at, next_of, fixed_at, StartsAt, Trace, IsTrace, Place, state_places, free_place, input_places, places, Agree, AreFrames, Follows, IsUnrolled}
+use Rattle.unroller.specs.Setups.{leaf_of, bit_of, bit_at, node_at, next_of, fixed_at, StartsAt, Trace, IsTrace, Place, state_places, free_place, input_places, places, Agree, AreFrames, IsUnrolled}
 use Rattle.unroller.specs.Steps.{AreNodes, Started, Given, Copied, Reached, Before}
 use Rattle.unroller.specs.Tables.{read_node}
-use Rattle.unroller.proofs.StepLaws.{apart_by, across_by, at_most_one}
+use Rattle.unroller.proofs.StepLaws.{across_by, at_most_one}
 
 -- leaves at their places
 

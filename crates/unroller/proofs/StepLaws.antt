@@ -1,20 +1,17 @@
 -- The parts of a frame.
-use Rattle.std.proofs.Common.{◌≡◌, ℕ, ◌+◌, ◌<◌, ◌≤◌, ◌||◌, ◌&&◌, Bool, true, false, not, cond, eqb, ltb, List, [], ◌∷◌, ◌++◌, length, get_or, take, arith, refl, sym, ap, ap₂, subst, ◌∙◌, Option, Some, None, zero, suc, inl, inr, length-append}
+use Rattle.std.proofs.Common.{◌≡◌, ℕ, ◌+◌, ◌<◌, ◌≤◌, ◌||◌, Bool, true, false, cond, eqb, ltb, List, [], ◌∷◌, ◌++◌, length, get_or, take, arith, refl, sym, ap, ap₂, subst, ◌∙◌, Option, Some, None, zero, suc, inl, inr, length-append}
 use Rattle.std.proofs.lemmas.Bool.{cond-true, cond-false, eq-eqb, ne_eqb, cases_eq, cases_lt, lt-ltb, le-ltb}
 use Rattle.std.proofs.lemmas.List.{take_more, get_or_default}
 use Rattle.std.proofs.Math.Path.{fun_ext}
-use mathlib.Core.Bool.{beq}
 use Rattle.cyc_net.specs.declared.node.Node.{Node}
-use Rattle.cyc_net.specs.declared.node.Node.TheVariants as node
 use Rattle.cyc_net.specs.declared.cycle.BitLeaf.{BitLeaf}
 use Rattle.cyc_net.specs.Nets.{value, has_leaf, gate_value, ReadsBelow, AllRead, Extends}
 use Rattle.cyc_net.specs.Cycles.{times}
 use Rattle.cyc_net.proofs.NetLaws.{Extends-trans, gate_same, value_gate}
 use Rattle.unroller.specs.declared.setup.Fixed.{Fixed}
 use Rattle.unroller.specs.declared.setup.FixedBit.{FixedBit}
-use Rattle.unroller.specs.declared.setup.StartState.{StartState}
 use Rattle.unroller.specs.declared.setup.StartState.TheVariants.{Free, PowerUp}
-use Rattle.unroller.specs.Setups.{no_leaf, leaf_of, bit_of, fixed_at, value_of, is_one, StartsAt, Trace, Place, state_places, free_place, input_places, Agree}
+use Rattle.unroller.specs.Setups.{no_leaf, leaf_of, bit_of, fixed_at, value_of, is_one, Trace, Place, state_places, free_place, input_places, Agree}
 use Rattle.unroller.specs.Steps.{Apart, Across, AreNodes, InputSays, Started, Given, Placing, Copied, Copying}
 use Rattle.unroller.specs.Tables.{read_node}
 

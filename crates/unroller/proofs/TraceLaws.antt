@@ -1,7 +1,6 @@
 -- Two traces with the same leaf values are the same, so the frames follow each of them.
-use Rattle.std.proofs.Common.{◌≡◌, ℕ, ◌+◌, ◌<◌, ◌≤◌, ◌||◌, ◌&&◌, Bool, true, false, not, cond, eqb, ltb, List, [], ◌∷◌, ◌++◌, length, get_or, arith, refl, sym, ap, ap₂, subst, ◌∙◌, ◌⊎◌, Option, Some, None, zero, suc, inl, inr}
-use Rattle.std.proofs.lemmas.Bool.{cond-true, cond-false, eq-eqb, ne_eqb, cases_eq, eqb-true}
-use mathlib.Core.Bool.{beq}
+use Rattle.std.proofs.Common.{◌≡◌, ℕ, ◌+◌, ◌<◌, ◌≤◌, ◌||◌, Bool, true, false, cond, eqb, List, [], ◌∷◌, ◌++◌, length, get_or, arith, refl, sym, ap, subst, ◌∙◌, Option, Some, None, zero, suc, inl, inr}
+use Rattle.std.proofs.lemmas.Bool.{cond-true, eq-eqb, cases_eq, eqb-true}
 use Rattle.cyc_net.specs.declared.node.Node.{Node}
 use Rattle.cyc_net.specs.declared.node.Node.TheVariants as node
 use Rattle.cyc_net.specs.declared.cycle.BitLeaf.{BitLeaf}
@@ -12,7 +11,7 @@ use Rattle.unroller.specs.declared.setup.Fixed.{Fixed}
 use Rattle.unroller.specs.declared.setup.StartState.{StartState}
 use Rattle.unroller.specs.declared.setup.StartState.TheVariants.{Free, PowerUp}
 use Rattle.unroller.specs.declared.frames.Unrolled.{Unrolled}
-use Rattle.unroller.specs.Setups.{leaf_of, bit_of, node_at, next_of, fixed_at, value_of, is_one, StartsAt, Trace, IsTrace, Place, state_places, free_place, input_places, places, Agree, IsUnrolled, FollowsAll}
+use Rattle.unroller.specs.Setups.{leaf_of, bit_of, node_at, next_of, fixed_at, StartsAt, Trace, IsTrace, Place, state_places, free_place, input_places, places, Agree, IsUnrolled, FollowsAll}
 use Rattle.unroller.proofs.FrameLaws.{Same}
 
 agree_both : (n : ℕ) (ps : List Place) (w : ℕ → Bool) (σ τ : Trace) → Agree n ps w σ → Agree n ps w τ → Same σ τ ps

@@ -1,5 +1,5 @@
 -- Windows and runs of a cycle net, by the values of its leaves in each cycle.
-use Rattle.std.specs.Prelude.{◌≡◌, ℕ, ◌+◌, ◌<◌, Bool, true, false, cond, eqb, ltb, List, [], ◌∷◌, ◌++◌, length, slice_index_or, Option, Some, None, zero, suc}
+use Rattle.std.specs.Prelude.{◌≡◌, ℕ, ◌+◌, ◌<◌, Bool, false, cond, eqb, ltb, List, [], ◌∷◌, ◌++◌, length, slice_index_or, Option, Some, None, zero, suc}
 use Rattle.std.specs.List.{fold}
 use mathlib.Core.Bool.{not}
 use Rattle.cyc_net.specs.declared.cycle.BitLeaf.{BitLeaf}

@@ -1,5 +1,5 @@
 -- What the parts of a frame do to the net and to the sources of the cycle net's leaves.
-use Rattle.std.specs.Prelude.{◌≡◌, ℕ, ◌+◌, ◌<◌, ◌||◌, Bool, true, false, eqb, ltb, List, length, take, [], Option, Some, None, slice_index_or}
+use Rattle.std.specs.Prelude.{◌≡◌, ℕ, ◌+◌, ◌<◌, ◌||◌, Bool, eqb, ltb, List, length, take, [], Option, Some, None, slice_index_or}
 use Rattle.cyc_net.specs.declared.node.Node.{Node}
 use Rattle.cyc_net.specs.declared.cycle.BitLeaf.{BitLeaf}
 use Rattle.cyc_net.specs.declared.cycle.BitNode.{BitNode}

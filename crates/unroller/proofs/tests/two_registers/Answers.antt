@@ -1,4 +1,4 @@
-use Rattle.std.proofs.Common.{◌≡◌, ℕ, ◌+◌, ◌<◌, ◌≤◌, ◌||◌, Bool, true, false, cond, eqb, List, [], ◌∷◌, length, arith, refl, sym, ap, subst, ◌∙◌, zero, suc, Some}
+use Rattle.std.proofs.Common.{◌≡◌, ℕ, ◌+◌, ◌<◌, ◌||◌, Bool, true, false, cond, eqb, List, [], ◌∷◌, length, arith, refl, sym, ap, subst, ◌∙◌, zero, suc}
 use Rattle.std.proofs.lemmas.Bool.{ne_eqb}
 use Rattle.cyc_net.specs.declared.node.Node.{Node}
 use Rattle.cyc_net.specs.declared.node.Node.TheVariants.{Const, Leaf}
@@ -35,7 +35,7 @@ cycle_net net0 net1 net2 net d p q inputs states bits nexts e0 dp pp qp k1 k2 ei
     let d_in : d < length net = let a = dp.within in let b = k1.longer in let c = k2.longer in omega arith in
     let p_in : p < length net = let a = pp.within in let c = k2.longer in omega arith in
     let has : (i : ℕ) → has_leaf net i ≡ (((false || eqb i 0) || eqb i 1) || eqb i 2) =
-      λ i. qp.leaves i ∙ ap (λ (b : Bool). b || eqb i 2) (pp.leaves i ∙ ap (λ (b : Bool). b || eqb i 1) (dp.leaves i ∙ ap (λ (b : Bool). b || eqb i 0) (ap (λ (ns : List Node). has_leaf ns i) e0))) in
+    λ i. qp.leaves i ∙ ap (λ (b : Bool). b || eqb i 2) (pp.leaves i ∙ ap (λ (b : Bool). b || eqb i 1) (dp.leaves i ∙ ap (λ (b : Bool). b || eqb i 0) (ap (λ (ns : List Node). has_leaf ns i) e0))) in
     let base : IsCycleNet (record { net = net; inputs = record { bit = 1; leaf = 0 } ∷ []; states = record { bit = 2; leaf = 2 } ∷ record { bit = 3; leaf = 1 } ∷ []; bits = record { bit = 1; node = d } ∷ record { bit = 2; node = q } ∷ []; nexts = record { bit = 2; node = p } ∷ record { bit = 3; node = d } ∷ [] }) = record {
       inputs = (omega arith, tt);
       states = (omega arith, (omega arith, tt));
@@ -44,15 +44,15 @@ cycle_net net0 net1 net2 net d p q inputs states bits nexts e0 dp pp qp k1 k2 ei
       bit_nodes = (d_in, (qp.within, tt));
       next_nodes = (p_in, (d_in, tt));
       leaves = λ i. once i ∙ ap (λ (b : Bool). cond {A = ℕ} b 1 0) (sym (has i));
-      have = ((p, refl), ((d, refl), tt))
+      have = ((p, refl), ((d, refl), tt));
     } in
     subst (λ (x : List BitLeaf). IsCycleNet (record { net = net; inputs = x; states = states; bits = bits; nexts = nexts })) (sym ei)
-      (subst (λ (x : List BitLeaf). IsCycleNet (record { net = net; inputs = record { bit = 1; leaf = 0 } ∷ []; states = x; bits = bits; nexts = nexts })) (sym es)
-        (subst (λ (x : List BitNode). IsCycleNet (record { net = net; inputs = record { bit = 1; leaf = 0 } ∷ []; states = record { bit = 2; leaf = 2 } ∷ record { bit = 3; leaf = 1 } ∷ []; bits = x; nexts = nexts })) (sym eb)
-          (subst (λ (x : List BitNode). IsCycleNet (record { net = net; inputs = record { bit = 1; leaf = 0 } ∷ []; states = record { bit = 2; leaf = 2 } ∷ record { bit = 3; leaf = 1 } ∷ []; bits = record { bit = 1; node = d } ∷ record { bit = 2; node = q } ∷ []; nexts = x })) (sym en) base)))
+    (subst (λ (x : List BitLeaf). IsCycleNet (record { net = net; inputs = record { bit = 1; leaf = 0 } ∷ []; states = x; bits = bits; nexts = nexts })) (sym es)
+    (subst (λ (x : List BitNode). IsCycleNet (record { net = net; inputs = record { bit = 1; leaf = 0 } ∷ []; states = record { bit = 2; leaf = 2 } ∷ record { bit = 3; leaf = 1 } ∷ []; bits = x; nexts = nexts })) (sym eb)
+    (subst (λ (x : List BitNode). IsCycleNet (record { net = net; inputs = record { bit = 1; leaf = 0 } ∷ []; states = record { bit = 2; leaf = 2 } ∷ record { bit = 3; leaf = 1 } ∷ []; bits = record { bit = 1; node = d } ∷ record { bit = 2; node = q } ∷ []; nexts = x })) (sym en) base)))
 
 pub returns : goal.returns
 returns c =
     cycle_net c.in_ok-net.net c.push.new.self c.push-2.new.self c.push-3.new.self c.in_ok-d.d c.in_ok-p.p c.in_ok-q.q c.in_ok-inputs.inputs c.in_ok-states.states c.in_ok-bits.bits c.in_ok-nexts.nexts
-      c.in_ok-net.ensures c.in_ok-d.ensures.made c.in_ok-p.ensures.made c.in_ok-q.ensures.made c.push-2.ensures.kept c.push-3.ensures.kept
-      c.in_ok-inputs.ensures c.in_ok-states.ensures c.in_ok-bits.ensures c.in_ok-nexts.ensures
+    c.in_ok-net.ensures c.in_ok-d.ensures.made c.in_ok-p.ensures.made c.in_ok-q.ensures.made c.push-2.ensures.kept c.push-3.ensures.kept
+    c.in_ok-inputs.ensures c.in_ok-states.ensures c.in_ok-bits.ensures c.in_ok-nexts.ensures

@@ -1,8 +1,7 @@
-use Rattle.std.proofs.Common.{◌≡◌, ℕ, Bool, ◌≤◌, length, arith, List, [], subst}
+use Rattle.std.proofs.Common.{◌≡◌, ℕ, Bool, arith, List, subst}
 use Rattle.cyc_net.specs.Nets.{value, gate_value}
 use Rattle.unroller.specs.Tables.{read_node}
-use Rattle.cyc_net.specs.declared.node.Node.TheVariants.{Const}
-use Rattle.unroller.proofs.StepLaws.{copying_more, copying_end, copying_start}
+use Rattle.unroller.proofs.StepLaws.{copying_more}
 use Rattle.unroller.proofs.unrolling.copy_net.Goals as goal
 
 pub loop-at-preserved : goal.loop-at-preserved

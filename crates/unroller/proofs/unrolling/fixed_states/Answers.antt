@@ -1,4 +1,4 @@
-use Rattle.std.proofs.Common.{◌≡◌, length, arith}
+use Rattle.std.proofs.Common.{arith}
 use Rattle.unroller.proofs.StepLaws.{started_power}
 use Rattle.unroller.proofs.unrolling.fixed_states.Goals as goal
 

@@ -1,4 +1,4 @@
-use Rattle.std.proofs.Common.{◌≡◌, ℕ, ◌<◌, Bool, length}
+use Rattle.std.proofs.Common.{◌≡◌, ℕ, ◌<◌, Bool}
 use Rattle.cyc_net.specs.Nets.{value}
 use Rattle.unroller.specs.Setups.{leaf_of, bit_of, is_one, value_of}
 use Rattle.unroller.specs.Steps.{AreNodes}

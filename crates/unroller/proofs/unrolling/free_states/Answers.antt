@@ -1,4 +1,4 @@
-use Rattle.std.proofs.Common.{◌≡◌, length, arith}
+use Rattle.std.proofs.Common.{arith}
 use Rattle.unroller.proofs.StepLaws.{started_free}
 use Rattle.unroller.proofs.unrolling.free_states.Goals as goal
 

@@ -1,4 +1,4 @@
-use Rattle.std.proofs.Common.{◌≡◌, ℕ, ◌<◌, Bool, ltb, length}
+use Rattle.std.proofs.Common.{◌≡◌, ℕ, ◌<◌, Bool, ltb}
 use Rattle.cyc_net.specs.Nets.{value, has_leaf, Extends}
 use Rattle.unroller.specs.Setups.{leaf_of}
 use Rattle.unroller.specs.Steps.{AreNodes}

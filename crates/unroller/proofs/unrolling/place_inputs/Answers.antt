@@ -1,7 +1,7 @@
-use Rattle.std.proofs.Common.{◌≡◌, ℕ, ◌+◌, ◌≤◌, length, arith, sym, ap, ap₂, ◌∙◌, Option, Bool, take, get_or}
+use Rattle.std.proofs.Common.{◌≡◌, arith, ap, ◌∙◌, Option, Bool, get_or}
 use Rattle.std.proofs.lemmas.List.{take_all, get_or_default}
 use Rattle.cyc_net.specs.declared.cycle.BitLeaf.{BitLeaf}
-use Rattle.unroller.specs.Setups.{no_leaf, or_some, reset_value, fixed_at}
+use Rattle.unroller.specs.Setups.{no_leaf, or_some, reset_value}
 use Rattle.unroller.proofs.StepLaws.{placed_by, placing_start, placing_end}
 use Rattle.unroller.proofs.unrolling.place_inputs.Goals as goal
 

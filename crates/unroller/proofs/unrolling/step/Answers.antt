@@ -1,7 +1,7 @@
-use Rattle.std.proofs.Common.{◌≡◌, ℕ, ◌<◌, ◌≤◌, List, length, arith, sym, ap, subst, ◌∙◌, map}
+use Rattle.std.proofs.Common.{◌≡◌, ℕ, ◌<◌, List, length, arith, sym, ap, subst, ◌∙◌, map}
 use Rattle.cyc_net.specs.declared.cycle.BitLeaf.{BitLeaf}
 use Rattle.cyc_net.specs.declared.cycle.BitNode.{BitNode}
-use Rattle.unroller.specs.Setups.{leaf_of, bit_of, next_of}
+use Rattle.unroller.specs.Setups.{leaf_of, bit_of}
 use Rattle.unroller.specs.Steps.{Apart, Given, Copied}
 use Rattle.unroller.specs.Tables.{read_node}
 use Rattle.unroller.proofs.StepLaws.{apart_first, apart_second}

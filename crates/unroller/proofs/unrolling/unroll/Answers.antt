@@ -1,6 +1,5 @@
-use Rattle.std.proofs.Common.{◌≡◌, ℕ, ◌+◌, ◌<◌, ◌≤◌, ◌++◌, ◌∷◌, [], List, length, arith, sym, ap, subst, ◌∙◌}
+use Rattle.std.proofs.Common.{◌+◌, List, arith, sym, subst}
 use Rattle.cyc_net.specs.declared.cycle.BitLeaf.{BitLeaf}
-use Rattle.cyc_net.specs.declared.cycle.BitNode.{BitNode}
 use Rattle.unroller.specs.Steps.{Apart, Started, Before}
 use Rattle.unroller.proofs.StepLaws.{apart_second}
 use Rattle.unroller.proofs.FrameLaws.{before_start, unrolled_end}

@@ -1,4 +1,4 @@
-use Rattle.std.proofs.Common.{◌≡◌, ◌≤◌, false, length, arith, sym, subst, ◌∙◌}
+use Rattle.std.proofs.Common.{false, arith, sym, subst, ◌∙◌}
 use Rattle.cyc_net.specs.declared.node.Node.TheVariants.{Const}
 use Rattle.cyc_net.specs.Nets.{LeavesBelow}
 use Rattle.cyc_net.proofs.NetLaws.{below_on, below_rest, below_none, below_end}
