@@ -25,21 +25,21 @@ passes : (over : ℕ) → most < over → nat_lt most over ≡ true
 passes n lt = search rules
 
 -- a file that was read
-read_file : (name : Text) (next : Text → Outcome → Type 0) (file : Option Text) (bytes : Text) (o : Outcome) → file ≡ Some bytes → length bytes ≤ most → next bytes o → OfFile name next file o
+pub read_file : (name : Text) (next : Text → Outcome → Type 0) (file : Option Text) (bytes : Text) (o : Outcome) → file ≡ Some bytes → length bytes ≤ most → next bytes o → OfFile name next file o
 read_file name next file bytes o e le h =
     let P : Option Text → Type 0 = λ f. OfFile name next f o in
     let Q : Bool → Type 0 = λ b. OfLength b bytes next o in
     subst P (sym e) (subst Q (sym (fits (length bytes) le)) h)
 
-gone_file : (name : Text) (next : Text → Outcome → Type 0) (file : Option Text) → file ≡ None → OfFile name next file (missing name)
+pub gone_file : (name : Text) (next : Text → Outcome → Type 0) (file : Option Text) → file ≡ None → OfFile name next file (missing name)
 gone_file name next file e = let P : Option Text → Type 0 = λ f. OfFile name next f (missing name) in subst P (sym e) refl
 
-long_file : (name : Text) (next : Text → Outcome → Type 0) (file : Option Text) → IsLonger most file → OfFile name next file too_long
+pub long_file : (name : Text) (next : Text → Outcome → Type 0) (file : Option Text) → IsLonger most file → OfFile name next file too_long
 long_file name next None h = absurd h
 long_file name next (Some bytes) h = let Q : Bool → Type 0 = λ b. OfLength b bytes next too_long in subst Q (sym (passes (length bytes) h)) refl
 
 -- there is an outcome, whatever the file is
-any_file : (name : Text) (next : Text → Outcome → Type 0) (file : Option Text) → ((bytes : Text) → (x : Outcome) × next bytes x) → (x : Outcome) × OfFile name next file x
+pub any_file : (name : Text) (next : Text → Outcome → Type 0) (file : Option Text) → ((bytes : Text) → (x : Outcome) × next bytes x) → (x : Outcome) × OfFile name next file x
 any_file name next None h = (missing name, refl)
 any_file name next (Some bytes) h = at (nat_lt most (length bytes))
   where
@@ -47,7 +47,7 @@ any_file name next (Some bytes) h = at (nat_lt most (length bytes))
     at true = (too_long, refl)
     at false = h bytes
 
-absent : (files : Files) (name : Text) → without name files name ≡ None
+pub absent : (files : Files) (name : Text) → without name files name ≡ None
 absent files name = search rules
 
 module _ (c : Check) (files : Files) where

@@ -2,3 +2,5 @@ pub mod PrintLaws
 pub mod ReportLaws
 pub mod JudgeLaws
 pub mod AllowsLaws
+pub mod ReadLaws
+pub mod LogLaws

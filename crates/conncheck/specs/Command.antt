@@ -1,5 +1,6 @@
 -- The words of the command line.
-use Rattle.std.specs.Prelude.{List, [], ◌∷◌, ℕ, Bool, false, not, ◌==◌, ◌&&◌, Option, Some, None, if◌then◌else◌, codes}
+use Rattle.std.specs.Prelude.{List, [], ◌∷◌, ℕ, Bool, false, not, ◌==◌, ◌&&◌, ◌||◌, Option, Some, None, if◌then◌else◌, codes, length}
+use Rattle.std.specs.List.{list_all}
 use Rattle.std.specs.Str.{bytes_eq}
 
 abbrev pub Text : Type 0
@@ -11,8 +12,10 @@ pub record Check : Type 0 where
   pub table : Text
   pub file : Text
 
+-- `lrat` has the names of its files
 pub data Command : Type 0 where
   check : Check → Command
+  lrat : List Text → Command
 
 -- a word that may stand as a value or a file name: it is not empty and does not begin with `-`
 abbrev pub is_plain : Text → Bool
@@ -25,8 +28,19 @@ check_of a x b y f =
     if bytes_eq a (codes "--top") && bytes_eq b (codes "--table") then Some (check (record { top = x; table = y; file = f }))
     else (if bytes_eq a (codes "--table") && bytes_eq b (codes "--top") then Some (check (record { top = y; table = x; file = f })) else None)
 
--- `check --top M --table F FILE`
+-- `--top M --table F FILE`
+abbrev pub check_words : List Text → Option Command
+check_words (a ∷ x ∷ b ∷ y ∷ f ∷ []) = if is_plain x && (is_plain y && is_plain f) then check_of a x b y f else None
+check_words _ = None
+
+abbrev pub is_one_or_two : List Text → Bool
+is_one_or_two files = (length files == 1) || (length files == 2)
+
+-- one or two file names
+abbrev pub lrat_words : List Text → Option Command
+lrat_words files = if is_one_or_two files && list_all is_plain files then Some (lrat files) else None
+
+-- `check` or `lrat`, and its own words
 abbrev pub command : List Text → Option Command
-command (c ∷ a ∷ x ∷ b ∷ y ∷ f ∷ []) =
-    if bytes_eq c (codes "check") && (is_plain x && (is_plain y && is_plain f)) then check_of a x b y f else None
-command _ = None
+command [] = None
+command (c ∷ ws) = if bytes_eq c (codes "check") then check_words ws else (if bytes_eq c (codes "lrat") then lrat_words ws else None)

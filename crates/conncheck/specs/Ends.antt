@@ -5,11 +5,11 @@ use Rattle.shelf_io.specs.Cause.{Rose}
 use Rattle.shelf_io.specs.Files.{Files}
 use Rattle.shelf_io.specs.Sink.{AppendsPart}
 use Rattle.conncheck.specs.Answers.{Allows, AppendsPieces}
-use Rattle.conncheck.specs.Causes.{WriteFaultCause}
+use Rattle.conncheck.specs.Causes.{BadWordsCause, WriteFaultCause}
 use Rattle.conncheck.specs.Command.{Text, Command}
 use Rattle.conncheck.specs.Outcome.{Outcome, pieces_of, status_of, text_of}
 use Rattle.conncheck.specs.declared.status.Status.{Status}
-use Rattle.conncheck.specs.declared.status.Status.TheVariants.{ReadFault, BadWords}
+use Rattle.conncheck.specs.declared.status.Status.TheVariants.{BadWords, NoMemory, ReadFault, WriteFault}
 use Rattle.conncheck.specs.declared.status.Stop.{Stop}
 use Rattle.conncheck.specs.declared.status.Stop.TheVariants.{Write, Memory}
 
@@ -43,6 +43,11 @@ ShelfCause before now (Err _) = before ≤ now
 abbrev pub IsNoBadWords : Result Status Stop → Type 0
 IsNoBadWords (Ok BadWords) = ⊥
 IsNoBadWords _ = ⊤
+
+abbrev pub WordsCause : Option Command → Result Status Stop → Type 0
+WordsCause command (Ok s) = BadWordsCause command s
+WordsCause command (Err Write) = BadWordsCause command WriteFault
+WordsCause command (Err Memory) = BadWordsCause command NoMemory
 
 -- what a check answers once its files are read
 abbrev pub IsOfBytes : Result Status Stop → Type 0

@@ -1,4 +1,4 @@
--- How a check ends once its files are read.
+-- How a call ends once its files are read.
 use Rattle.std.specs.Prelude.{Option, Result}
 use Rattle.plain_form.specs.Wires.{source_of}
 use Rattle.conncheck.specs.Command.{Text, Check}
@@ -6,6 +6,12 @@ use Rattle.conncheck.specs.Ends.{Ends}
 use Rattle.conncheck.specs.Outcome.{Outcome, OfSource}
 use Rattle.conncheck.specs.declared.status.Status.{Status}
 use Rattle.conncheck.specs.declared.status.Stop.{Stop}
+
+-- with an outcome of this kind
+pub record EndsBy (Is : Outcome → Type 0) (old new : Option Text) (r : Result Status Stop) : Type 0 where
+  pub outcome : Outcome
+  pub is : Is outcome
+  pub ended : Ends outcome old new r
 
 pub record EndsWith (c : Check) (table source : Text) (old new : Option Text) (r : Result Status Stop) : Type 0 where
   pub outcome : Outcome

@@ -5,5 +5,6 @@ pub mod Texts
 pub mod Outcome
 pub mod Answers
 pub mod Ends
+pub mod Reads
 pub mod Judge
 pub mod Judged

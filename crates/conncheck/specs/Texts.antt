@@ -3,6 +3,8 @@ use Rattle.std.specs.Prelude.{List, [], ◌++◌, ℕ, Bool, true, false, not, c
 use Rattle.design_core.specs.declared.place.BitRef.{BitRef}
 use Rattle.plain_form.specs.Table.{Row}
 use Rattle.plain_rows.specs.Verdicts.{Verdict, proved, refuted}
+use Rattle.log_verdict.specs.declared.judge.LogAnswer.{LogAnswer}
+use Rattle.log_verdict.specs.declared.judge.LogAnswer.TheVariants as log
 use Rattle.conncheck.specs.Command.{Text}
 
 abbrev pub line : Text → Text → Text
@@ -38,3 +40,10 @@ total_of n p r = (((((codes "TOTAL " ++ decimal n) ++ codes " proved ") ++ decim
 -- the numbers of rows, of proved ones and of refuted ones
 abbrev pub total_text : List Judged → Text
 total_text js = total_of (length js) (count_by was_proved js) (count_by (λ j. not (was_proved j)) js)
+
+-- what a log comes to; a step is named by its number from 1
+abbrev pub log_text : LogAnswer → Text
+log_text log.Verified = codes "VERIFIED\n"
+log_text (log.Rejected step) = line (codes "REJECTED ") (decimal step)
+log_text (log.BadFormula n) = line (codes "REFUSED C17 BadDimacs\nAT line ") (decimal n)
+log_text (log.BadLog n) = line (codes "REFUSED C18 BadLrat\nAT line ") (decimal n)

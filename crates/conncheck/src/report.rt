@@ -1,15 +1,18 @@
 // What is printed.
-ghost use Rattle.std.specs.Prelude.{map};
-ghost use Rattle.conncheck.specs.Ends.{Adds, Ends, IsOfBytes, PieceCause, SinkCause};
-ghost use Rattle.conncheck.specs.Outcome.{bad_words, missing, not_yet, report, too_long};
+ghost use Rattle.std.specs.Prelude.{map, ℕ};
+ghost use Rattle.conncheck.specs.Ends.{Adds, Ends, IsNoBadWords, IsOfBytes, PieceCause, ShelfCause, SinkCause};
+ghost use Rattle.conncheck.specs.Outcome.{bad_words, logged, missing, not_yet, report, too_long};
+ghost use Rattle.conncheck.specs.Reads.{UnreadCause, UnreadEnds};
 ghost use Rattle.conncheck.specs.Judge.{judge};
 ghost use Rattle.conncheck.specs.Texts.{judged_text, total_of, verdict_text};
 ghost use Rattle.plain_form.specs.Names.{listed};
 ghost use Rattle.plain_form.specs.SeenTable.{seen_row};
 ghost use Rattle.plain_rows.specs.Seen.{seen_verdict};
 
+use crate::reads::Unread;
 use crate::status::{Status, Stop};
-use crate::text::{line, row_text, total_text};
+use crate::text::{line, log_text, row_text, total_text};
+use log_verdict::LogAnswer;
 use plain_form::{Line, Names, Wires};
 use plain_rows::{Verdict, decide_row};
 use shelf_io::Sink;
@@ -48,6 +51,36 @@ pub fn say_not_yet<K: Sink>(alloc: Global, name: &str, out: &mut K) -> Result<St
     let text = line(alloc, b"REFUSED E00 NotYet\nAT ", name.as_bytes())?;
     out.write_all(text.as_slice())?;
     Ok(Status::Refused)
+}
+
+/// Names the file whose read failed, or says that a file is too long.
+pub fn say_unread<K: Sink>(alloc: Global, unread: Unread<'_>, out: &mut K) -> Result<Status, Stop>
+    ensures printed { UnreadEnds unread.entry (K.taken out.old) (K.taken out.new) result }
+    ensures kind { IsNoBadWords result }
+    ensures shelf { (before now : ℕ) → UnreadCause unread.entry before now → ShelfCause before now result }
+    ensures cause { SinkCause (K.faults out.old) (K.faults out.new) result }
+{
+    match unread {
+        Unread::Missing(name) => say_missing(alloc, name, out),
+        Unread::TooLong => say_too_long(out),
+        Unread::NoMemory => Err(Stop::Memory),
+    }
+}
+
+/// What a log comes to.
+pub fn say_log<K: Sink>(alloc: Global, answer: LogAnswer, out: &mut K) -> Result<Status, Stop>
+    ensures printed { Ends (logged answer) (K.taken out.old) (K.taken out.new) result }
+    ensures kind { IsOfBytes result }
+    ensures cause { SinkCause (K.faults out.old) (K.faults out.new) result }
+{
+    let text = log_text(alloc, answer)?;
+    out.write_all(text.as_slice())?;
+    match answer {
+        LogAnswer::Verified => Ok(Status::Done),
+        LogAnswer::Rejected(_) => Ok(Status::Findings),
+        LogAnswer::BadFormula(_) => Ok(Status::Refused),
+        LogAnswer::BadLog(_) => Ok(Status::Refused),
+    }
 }
 
 fn say_row<K: Sink>(

@@ -187,3 +187,76 @@ fn a_file_that_is_too_long(rt: HostRuntime) -> Result<(), Fail> {
     );
     Ok(())
 }
+
+// Whether `lrat t.csv m.v` ends so, over a formula and a log of these names.
+fn judged(
+    alloc: Global,
+    formula: &[u8],
+    log: &[u8],
+    want: Status,
+    text: &[u8],
+) -> Result<bool, NoMemory> {
+    let line = ["lrat", "t.csv", "m.v"];
+    let (status, taken) = call(alloc, &line, formula, log, None)?;
+    Ok(status == want && taken.as_slice() == text)
+}
+
+#[test]
+fn logs_against_formulas(rt: HostRuntime) -> Result<(), Fail> {
+    let alloc = rt.alloc();
+    let formula = b"p cnf 1 2\n1 0\n-1 0\n".as_slice();
+    let whole = b"3 0 1 2 0\n".as_slice();
+    for (log, want, text) in [
+        (whole, Status::Done, b"VERIFIED\n".as_slice()),
+        (
+            b"3 0 1 0\n".as_slice(),
+            Status::Findings,
+            b"REJECTED 1\n".as_slice(),
+        ),
+        (
+            b"3 0 9 0\n".as_slice(),
+            Status::Findings,
+            b"REJECTED 1\n".as_slice(),
+        ),
+        (
+            b"2 0 1 2 0\n".as_slice(),
+            Status::Findings,
+            b"REJECTED 1\n".as_slice(),
+        ),
+        (
+            b"3 0 -1 2 0\n".as_slice(),
+            Status::Findings,
+            b"REJECTED 1\n".as_slice(),
+        ),
+        (
+            b"\n".as_slice(),
+            Status::Findings,
+            b"REJECTED 1\n".as_slice(),
+        ),
+        (
+            b"3 d 1 0\n4 0 1 2 0".as_slice(),
+            Status::Findings,
+            b"REJECTED 2\n".as_slice(),
+        ),
+        (
+            b"".as_slice(),
+            Status::ReadFault,
+            b"READFAULT m.v\n".as_slice(),
+        ),
+    ] {
+        assert!(rt; judged(alloc, formula, log, want, text)?);
+    }
+    let cut = b"REFUSED C18 BadLrat\nAT line 1\n".as_slice();
+    for end in 1..9 {
+        assert!(rt; judged(alloc, formula, &whole[..end], Status::Refused, cut)?);
+    }
+    let short = b"REFUSED C17 BadDimacs\nAT line 2\n".as_slice();
+    assert!(rt; judged(alloc, b"p cnf 1 2\n1 0\n", whole, Status::Refused, short)?);
+    let one = b"p cnf 1 2\n1 0\n-1 0\nc proof\n3 0 1 2 0\n".as_slice();
+    let (status, taken) = call(alloc, &["lrat", "t.csv"], one, b"", None)
+        .ok()
+        .ok_or("memory")?;
+    assert_eq!(rt; status, Status::Done);
+    assert!(rt; taken.as_slice() == b"VERIFIED\n".as_slice());
+    Ok(())
+}

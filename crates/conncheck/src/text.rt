@@ -1,5 +1,5 @@
 // Texts of whole lines.
-ghost use Rattle.std.specs.Prelude.{◌≡◌, IfOk};
+ghost use Rattle.std.specs.Prelude.{◌≡◌, IfOk, decimal};
 ghost use Rattle.conncheck.specs.Texts as spec;
 ghost use Rattle.design_core.specs.Core.{bit};
 ghost use Rattle.plain_form.specs.Names.{listed};
@@ -10,6 +10,7 @@ ghost use Rattle.plain_rows.specs.Verdicts.{refuted};
 
 use bits_core::NoMemory;
 use itoa::Buffer;
+use log_verdict::LogAnswer;
 use plain_form::{Line, Names};
 use plain_rows::Verdict;
 use std::alloc::Global;
@@ -25,6 +26,26 @@ pub fn line(alloc: Global, word: &[u8], text: &[u8]) -> Result<Vec<u8>, NoMemory
     made.extend_from_slice(text)?;
     made.extend_from_slice(b"\n")?;
     Ok(made)
+}
+
+/// A word, a number and the end of the line.
+fn number_line(alloc: Global, word: &[u8], number: u64) -> Result<Vec<u8>, NoMemory>
+    ensures { IfOk result (λ v. v.items ≡ spec.line word.now (decimal number)) }
+{
+    let mut buffer = Buffer::new();
+    line(alloc, word, buffer.format(number).as_bytes())
+}
+
+/// What a log comes to.
+pub fn log_text(alloc: Global, answer: LogAnswer) -> Result<Vec<u8>, NoMemory>
+    ensures { IfOk result (λ v. v.items ≡ spec.log_text answer) }
+{
+    match answer {
+        LogAnswer::Verified => Ok(Vec::from_slice(alloc, b"VERIFIED\n")?),
+        LogAnswer::Rejected(step) => number_line(alloc, b"REJECTED ", step),
+        LogAnswer::BadFormula(at) => number_line(alloc, b"REFUSED C17 BadDimacs\nAT line ", at),
+        LogAnswer::BadLog(at) => number_line(alloc, b"REFUSED C18 BadLrat\nAT line ", at),
+    }
 }
 
 /// The last line of a report.

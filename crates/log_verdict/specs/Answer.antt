@@ -61,3 +61,13 @@ pub record IsRefuted (said : Result Formula TextFault) (log : Result (List Step)
   pub steps_said : log ≡ Ok steps
   pub refuted : refutes formula.clauses steps ≡ true
   pub no_model : HasNoModel formula.clauses
+
+-- the answer that the lines say, and it is Verified exactly where the log refutes the formula
+pub record IsJudged (before : ℕ) (formula log : List (List ℕ)) (a : LogAnswer) : Type 0 where
+  pub says : a ≡ answer_of before formula log
+  pub sound : a ≡ answer.Verified → IsRefuted (said_formula formula) (said_log log)
+  pub complete : IsRefuted (said_formula formula) (said_log log) → a ≡ answer.Verified
+
+-- the same for one text
+abbrev pub IsJudgedOne : List (List ℕ) → LogAnswer → Type 0
+IsJudgedOne lines a = IsJudged (suc (length (upto proof_line lines))) (upto proof_line lines) (upto next_line (past proof_line lines)) a

@@ -1,7 +1,6 @@
-ghost use Rattle.std.specs.Prelude.{◌≡◌, ◌+◌, ◌^◌, ◌<◌, Ok, IfOk, length};
+ghost use Rattle.std.specs.Prelude.{◌≡◌, ◌+◌, ◌^◌, ◌<◌, IfOk, length};
 ghost use Rattle.cnf_core.specs.Text.{text_lines};
-ghost use Rattle.log_verdict.specs.Answer.{IsRefuted, answer_of, answer_of_one, next_line, proof_line, said_formula, said_log};
-ghost use Rattle.log_verdict.specs.Lines.{past, upto};
+ghost use Rattle.log_verdict.specs.Answer.{IsJudged, IsJudgedOne, answer_of};
 
 use crate::lines::part_at;
 use bits_core::NoMemory;
@@ -22,8 +21,7 @@ pub enum LogAnswer {
 /// A formula's text, and a log's text that stands behind some lines.
 fn judge(alloc: Global, formula: &[u8], log: &[u8], before: u64) -> Result<LogAnswer, NoMemory>
     requires { before + length (text_lines log.now) < 2 ^ 64 }
-    ensures answer { IfOk result (λ a. a ≡ answer_of before (text_lines formula.now) (text_lines log.now)) }
-    ensures sound { result ≡ Ok LogAnswer.Verified → IsRefuted (said_formula (text_lines formula.now)) (said_log (text_lines log.now)) }
+    ensures { IfOk result (λ a. a ≡ answer_of before (text_lines formula.now) (text_lines log.now)) }
 {
     let formula = match read_dimacs(alloc, formula) {
         Ok(formula) => formula,
@@ -45,17 +43,14 @@ fn judge(alloc: Global, formula: &[u8], log: &[u8], before: u64) -> Result<LogAn
 /// The answer for a formula's text and a log's text: the faults of the formula's text come first. Linear in the texts, but for the look-up of
 /// a hint, which is logarithmic.
 pub fn judge_two(alloc: Global, formula: &[u8], log: &[u8]) -> Result<LogAnswer, NoMemory>
-    ensures answer { IfOk result (λ a. a ≡ answer_of 0 (text_lines formula.now) (text_lines log.now)) }
-    ensures sound { result ≡ Ok LogAnswer.Verified → IsRefuted (said_formula (text_lines formula.now)) (said_log (text_lines log.now)) }
+    ensures { IfOk result (IsJudged 0 (text_lines formula.now) (text_lines log.now)) }
 {
     judge(alloc, formula, log, 0)
 }
 
 /// The answer for one text: the formula, the first line `c proof`, and the log up to the first line `c next` or the end. Lines are counted in the text.
 pub fn judge_one(alloc: Global, text: &[u8]) -> Result<LogAnswer, NoMemory>
-    ensures answer { IfOk result (λ a. a ≡ answer_of_one (text_lines text.now)) }
-    ensures sound { result ≡ Ok LogAnswer.Verified
-        → IsRefuted (said_formula (upto proof_line (text_lines text.now))) (said_log (upto next_line (past proof_line (text_lines text.now)))) }
+    ensures { IfOk result (IsJudgedOne (text_lines text.now)) }
 {
     let proof = part_at(alloc, text, b"c proof")?;
     let log = part_at(alloc, proof.behind, b"c next")?;

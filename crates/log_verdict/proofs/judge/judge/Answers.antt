@@ -13,13 +13,3 @@ overflow_add-result c =
     let near : bad.line ≤ length (text_lines c.args.log.now) = bad_text c.args.log.now bad.line said in
     let fits = c.requires in
     first_of (search (rules, near, fits), grind (arith, near, fits))
-
-pub returns-in-Verified-clause-sound : goal.returns-in-Verified-clause-sound
-returns-in-Verified-clause-sound c = λ e. record {
-  formula = c.in-Ok.formula;
-  steps = c.in-Ok-read_lrat.log;
-  formula_said = c.in-Ok.ensures;
-  steps_said = c.in-Ok-read_lrat.ensures;
-  refuted = c.check.ensures.verified.0 c.in-Verified.is;
-  no_model = c.check.ensures.sound c.in-Verified.is;
-}
