@@ -1,6 +1,7 @@
 // Files of the system.
-ghost use Rattle.std.specs.Prelude.{◌≡◌, ◌≤◌, None, length, IfOk};
+ghost use Rattle.std.specs.Prelude.{◌≡◌, None};
 ghost use Rattle.shelf_io.specs.Cause.{Rose};
+ghost use Rattle.conncheck_cli.specs.ReadsUpTo.{ReadsUpTo};
 
 use shelf_io::{Shelf, ShelfError};
 use std::alloc::Global;
@@ -33,7 +34,7 @@ impl<'a, R: Files> RealShelf<'a, R> {
 
 // Reads a file to its end, or one byte further than `most`.
 fn read_up_to<F: Read>(alloc: Global, file: &mut F, most: usize) -> Result<Vec<u8>, ShelfError>
-    ensures { IfOk result (λ b. length b.items ≤ most) }
+    ensures { ReadsUpTo (λ b. b.items) most (F.remaining file.old) result }
 {
     let mut bytes = Vec::new(alloc);
     let mut buffer = [0u8; 4096];
@@ -75,5 +76,27 @@ impl<R: Files> Shelf for RealShelf<'_, R> {
             Err(ShelfError::Failed) => Err(self.fail()),
             other => other,
         }
+    }
+}
+
+#[cfg(test)]
+mod tests {
+    use crate::real_shelf::RealShelf;
+    use shelf_io::{Shelf, ShelfError};
+    use std::fs;
+    use std::test::Fail;
+
+    #[test]
+    fn files_of_the_system(rt: HostRuntime) -> Result<(), Fail> {
+        let alloc = rt.alloc();
+        fs::write(&rt, "small.txt", b"two\nlines\n".as_slice())?;
+        let mut shelf = RealShelf::new(&rt);
+        let whole = shelf.read(alloc, "small.txt", 10).ok().ok_or("whole")?;
+        assert!(rt; whole.as_slice() == b"two\nlines\n".as_slice());
+        assert!(rt; shelf.read(alloc, "small.txt", 9).err() == Some(ShelfError::TooLong));
+        assert_eq!(rt; shelf.faults, 0);
+        assert!(rt; shelf.read(alloc, "missing.txt", 10).err() == Some(ShelfError::Failed));
+        assert_eq!(rt; shelf.faults, 1);
+        Ok(())
     }
 }

@@ -45,3 +45,45 @@ impl<R: Print> Sink for RealSink<'_, R> {
         }
     }
 }
+
+#[cfg(test)]
+mod tests {
+    use crate::real_sink::RealSink;
+    use shelf_io::Sink;
+    use std::fmt::Display;
+    use std::io;
+    use std::test::Fail;
+
+    // Takes nothing.
+    struct Closed;
+
+    impl Print for Closed {
+        fn print<D: Display + Drop>(&self, _: D) -> io::Result<()> {
+            Ok(())
+        }
+
+        fn println<D: Display + Drop>(&self, _: D) -> io::Result<()> {
+            Ok(())
+        }
+
+        fn write_all(&self, _: &[u8]) -> io::Result<()> {
+            Ok(())
+        }
+
+        fn write_some(&self, _: &[u8]) -> io::Result<usize> {
+            Ok(0)
+        }
+    }
+
+    #[test]
+    fn standard_output(rt: HostRuntime) -> Result<(), Fail> {
+        let mut sink = RealSink::new(&rt);
+        assert!(rt; sink.write_all(b"taken by the sink\n").is_ok());
+        assert!(rt; sink.write_all(b"").is_ok());
+        assert_eq!(rt; sink.faults, 0);
+        let mut closed = RealSink::new(&Closed);
+        assert!(rt; closed.write_all(b"lost").is_err());
+        assert_eq!(rt; closed.faults, 1);
+        Ok(())
+    }
+}
