@@ -56,45 +56,45 @@ unfolding body_of
 in_table table t b h = taken_from (directive_of (directive_name t)) (table (directive_name t)) b h
 
 -- a turn of the loop over a body: the list is read through another that equals it, and the table is the first one
-module _ (depth : ℕ) (implicit : Bool) (T T0 : Table) (xs ys : List Token) (at : ℕ) (d0 t : Token) (g : SGate) (whole : Reached SGate) (same : ys ≡ xs) (here : get_or ys at d0 ≡ t)
-    (less : at < length ys) (still : T ≡ T0) (inv : fold_tokens (body_token depth T0 implicit) (map view (drop at xs)) g ≡ whole) where
+module _ (depth : ℕ) (implicit : Bool) (table first_table : Table) (xs ys : List Token) (at : ℕ) (d0 t : Token) (g : SGate) (whole : Reached SGate) (same : ys ≡ xs) (here : get_or ys at d0 ≡ t)
+    (less : at < length ys) (still : table ≡ first_table) (inv : fold_tokens (body_token depth first_table implicit) (map view (drop at xs)) g ≡ whole) where
   reads : get_or xs at d0 ≡ t
   reads = ap (λ z. get_or z at d0) (sym same) ∙ here
 
   within : at < length xs
   within = let P : List Token → Type 0 = λ z. at < length z in subst P same less
 
-  pub goes : (n : SGate) → body_token depth T implicit (view t) g ≡ Ok n → fold_tokens (body_token depth T0 implicit) (map view (drop (at + 1) xs)) n ≡ whole
-  goes n is = turn_on (body_token depth T0 implicit) xs at d0 t g n whole within reads (ap (λ z. body_token depth z implicit (view t) g) (sym still) ∙ is) inv
+  pub goes : (n : SGate) → body_token depth table implicit (view t) g ≡ Ok n → fold_tokens (body_token depth first_table implicit) (map view (drop (at + 1) xs)) n ≡ whole
+  goes n is = turn_on (body_token depth first_table implicit) xs at d0 t g n whole within reads (ap (λ z. body_token depth z implicit (view t) g) (sym still) ∙ is) inv
 
-  pub stops : (r : Halt) → Ends r (body_token depth T implicit (view t) g) → Ends r whole
-  stops r is = turn_end (body_token depth T0 implicit) xs at d0 t g whole r within reads
-      (ends_as r (body_token depth T implicit (view t) g) (body_token depth T0 implicit (view t) g) (ap (λ z. body_token depth z implicit (view t) g) still) is) inv
+  pub stops : (r : Halt) → Ends r (body_token depth table implicit (view t) g) → Ends r whole
+  stops r is = turn_end (body_token depth first_table implicit) xs at d0 t g whole r within reads
+      (ends_as r (body_token depth table implicit (view t) g) (body_token depth first_table implicit (view t) g) (ap (λ z. body_token depth z implicit (view t) g) still) is) inv
 
-  pub refused : (r : Halt) → is_directive t.kind ≡ true → IsReason r (halt_reason g (expansion_fault (view t))) → (0 < depth → body_of T (view t) ≡ None) → Ends r whole
-  refused r is reason none = stops r (reason_ends r _ (body_token depth T implicit (view t) g) reason (refuses depth T implicit (view t) g none is))
+  pub refused : (r : Halt) → is_directive t.kind ≡ true → IsReason r (halt_reason g (expansion_fault (view t))) → (0 < depth → body_of table (view t) ≡ None) → Ends r whole
+  refused r is reason none = stops r (reason_ends r _ (body_token depth table implicit (view t) g) reason (refuses depth table implicit (view t) g none is))
 
-  entered : (T1 : Table) (g1 : SGate) (b : List Seen) → is_directive t.kind ≡ true → (0 < depth) × (body_of T (view t) ≡ Some b) → T1 ≡ updated T (directive_name (view t)) None → g1 ≡ g
-      → expanded (depth - 1) T1 implicit b g1 ≡ body_token depth T implicit (view t) g
-  entered T1 g1 b is there gone calm =
-      ap (λ z. expanded (depth - 1) z implicit b g1) gone ∙ (ap (λ z. expanded (depth - 1) (updated T (directive_name (view t)) None) implicit b z) calm
-      ∙ sym (enters depth T implicit (view t) b g there.0 is there.1))
+  entered : (inner_table : Table) (g1 : SGate) (b : List Seen) → is_directive t.kind ≡ true → (0 < depth) × (body_of table (view t) ≡ Some b) → inner_table ≡ updated table (directive_name (view t)) None → g1 ≡ g
+      → expanded (depth - 1) inner_table implicit b g1 ≡ body_token depth table implicit (view t) g
+  entered inner_table g1 b is there gone calm =
+      ap (λ z. expanded (depth - 1) z implicit b g1) gone ∙ (ap (λ z. expanded (depth - 1) (updated table (directive_name (view t)) None) implicit b z) calm
+      ∙ sym (enters depth table implicit (view t) b g there.0 is there.1))
 
-  pub inner_stops : (r : Halt) (T1 : Table) (g1 : SGate) (b : List Seen) → is_directive t.kind ≡ true → (0 < depth) × (body_of T (view t) ≡ Some b) → T1 ≡ updated T (directive_name (view t)) None → g1 ≡ g
-      → Ends r (expanded (depth - 1) T1 implicit b g1) → Ends r whole
-  inner_stops r T1 g1 b is there gone calm end = stops r (ends_as r _ (body_token depth T implicit (view t) g) (entered T1 g1 b is there gone calm) end)
+  pub inner_stops : (r : Halt) (inner_table : Table) (g1 : SGate) (b : List Seen) → is_directive t.kind ≡ true → (0 < depth) × (body_of table (view t) ≡ Some b) → inner_table ≡ updated table (directive_name (view t)) None → g1 ≡ g
+      → Ends r (expanded (depth - 1) inner_table implicit b g1) → Ends r whole
+  inner_stops r inner_table g1 b is there gone calm end = stops r (ends_as r _ (body_token depth table implicit (view t) g) (entered inner_table g1 b is there gone calm) end)
 
-  pub inner_goes : (n : SGate) (T1 : Table) (g1 : SGate) (b : List Seen) → is_directive t.kind ≡ true → (0 < depth) × (body_of T (view t) ≡ Some b) → T1 ≡ updated T (directive_name (view t)) None → g1 ≡ g
-      → expanded (depth - 1) T1 implicit b g1 ≡ Ok n → fold_tokens (body_token depth T0 implicit) (map view (drop (at + 1) xs)) n ≡ whole
-  inner_goes n T1 g1 b is there gone calm ok = goes n (sym (entered T1 g1 b is there gone calm) ∙ ok)
+  pub inner_goes : (n : SGate) (inner_table : Table) (g1 : SGate) (b : List Seen) → is_directive t.kind ≡ true → (0 < depth) × (body_of table (view t) ≡ Some b) → inner_table ≡ updated table (directive_name (view t)) None → g1 ≡ g
+      → expanded (depth - 1) inner_table implicit b g1 ≡ Ok n → fold_tokens (body_token depth first_table implicit) (map view (drop (at + 1) xs)) n ≡ whole
+  inner_goes n inner_table g1 b is there gone calm ok = goes n (sym (entered inner_table g1 b is there gone calm) ∙ ok)
 
-  pub back : (T1 T2 T3 : Table) (b : List Seen) → body_of T (view t) ≡ Some b → T1 ≡ updated T (directive_name (view t)) None → T2 ≡ T1 → (name : Text) → name ≡ directive_name (view t) → T3 ≡ updated T2 name (Some b) → T3 ≡ T0
-  back T1 T2 T3 b there gone kept name named put =
-      put ∙ (ap (λ z. updated T2 z (Some b)) named ∙ (ap (λ z. updated z (directive_name (view t)) (Some b)) (kept ∙ gone) ∙ (restored T (directive_name (view t)) b (in_table T (view t) b there) ∙ still)))
+  pub back : (inner_table left_table last_table : Table) (b : List Seen) → body_of table (view t) ≡ Some b → inner_table ≡ updated table (directive_name (view t)) None → left_table ≡ inner_table → (name : Text) → name ≡ directive_name (view t) → last_table ≡ updated left_table name (Some b) → last_table ≡ first_table
+  back inner_table left_table last_table b there gone kept name named put =
+      put ∙ (ap (λ z. updated left_table z (Some b)) named ∙ (ap (λ z. updated z (directive_name (view t)) (Some b)) (kept ∙ gone) ∙ (restored table (directive_name (view t)) b (in_table table (view t) b there) ∙ still)))
 
   pub fed_goes : (n : SGate) (m : Seen) → is_directive t.kind ≡ false → m ≡ marked implicit (view t) → fed g m g.mode ≡ Ok n
-      → fold_tokens (body_token depth T0 implicit) (map view (drop (at + 1) xs)) n ≡ whole
-  fed_goes n m is seen ok = goes n (feeds depth T implicit (view t) g is ∙ (ap (λ z. fed g z g.mode) (sym seen) ∙ ok))
+      → fold_tokens (body_token depth first_table implicit) (map view (drop (at + 1) xs)) n ≡ whole
+  fed_goes n m is seen ok = goes n (feeds depth table implicit (view t) g is ∙ (ap (λ z. fed g z g.mode) (sym seen) ∙ ok))
 
   pub fed_stops : (r : Halt) (m : Seen) → is_directive t.kind ≡ false → m ≡ marked implicit (view t) → Ends r (fed g m g.mode) → Ends r whole
-  fed_stops r m is seen end = stops r (ends_as r (fed g m g.mode) (body_token depth T implicit (view t) g) (ap (λ z. fed g z g.mode) seen ∙ sym (feeds depth T implicit (view t) g is)) end)
+  fed_stops r m is seen end = stops r (ends_as r (fed g m g.mode) (body_token depth table implicit (view t) g) (ap (λ z. fed g z g.mode) seen ∙ sym (feeds depth table implicit (view t) g is)) end)

@@ -1,7 +1,10 @@
 pub mod Bytes
+pub mod Forms
 pub mod Gate
 pub mod Lexed
 pub mod Macros
 pub mod Numbers
 pub mod Pieces
+pub mod Places
+pub mod Shelves
 pub mod Walk

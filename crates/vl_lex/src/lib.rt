@@ -7,6 +7,7 @@ mod directives;
 mod expansion;
 mod files;
 mod gate;
+mod laws;
 mod lexer;
 mod macros;
 mod numbers;
@@ -16,5 +17,8 @@ mod state;
 mod walk;
 
 pub use files::Files;
+pub use laws::{
+    cuts_into_longest, further_files_change_nothing, kept_tokens_are_slices, tokens_are_slices,
+};
 pub use lexer::lex;
 pub use preprocessor::{Walk, preprocess};

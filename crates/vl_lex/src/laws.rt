@@ -1,0 +1,33 @@
+ghost use Rattle.std.specs.Prelude.{◌≡◌, ℕ, ◌≤◌, Ok, List, ◌++◌, length};
+ghost use Rattle.bits_core.specs.declared.names.File.{File};
+ghost use Rattle.vl_lex.specs.Bytes.{Text};
+ghost use Rattle.vl_lex.specs.Lexed.{Seen, beginning, file_tokens};
+ghost use Rattle.vl_lex.specs.Forms.{Cut};
+ghost use Rattle.vl_lex.specs.Walk.{kept};
+ghost use Rattle.vl_lex.specs.Shelves.{AsksNothing};
+ghost use Rattle.vl_lex.specs.Places.{AreSlices, AreSlicesOf, InOrder, tokens_of};
+
+/// The bytes of a file are white space, comments and tokens one after the other, each the longest that fits.
+#[tactic(auto, using(crate::proofs::Cuts::cuts_file))]
+pub fn cuts_into_longest()
+    ensures { (file : ℕ) (text : Text) → Cut file beginning text (file_tokens file text) }
+{}
+
+/// Each token of a file is the slice that its span says, on its line, and the tokens stand in order.
+#[tactic(auto, using(crate::proofs::Places::file_slices, crate::proofs::Places::file_order))]
+pub fn tokens_are_slices()
+    ensures slices { (file : ℕ) (text : Text) → AreSlices file text (tokens_of (file_tokens file text).tokens) }
+    ensures order { (file : ℕ) (text : Text) → InOrder 0 (tokens_of (file_tokens file text).tokens) }
+{}
+
+/// Files behind those that the walk was over change nothing where it asked for none.
+#[tactic(auto, using(crate::proofs::Shelves::more_files))]
+pub fn further_files_change_nothing()
+    ensures { (files further : List File) (named : ℕ) (defines : List Text) → named ≤ length files → AsksNothing (kept files named defines) → kept (files ++ further) named defines ≡ kept files named defines }
+{}
+
+/// Each kept token is the slice that its span says, of the file that its span names.
+#[tactic(auto, using(crate::proofs::Slices::kept_slices))]
+pub fn kept_tokens_are_slices()
+    ensures { (files : List File) (named : ℕ) (defines : List Text) (tokens : List Seen) → kept files named defines ≡ Ok tokens → AreSlicesOf files tokens }
+{}
