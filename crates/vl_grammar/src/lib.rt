@@ -1,11 +1,15 @@
 //! The grammar of expressions, and laws about it.
 #![tactic(auto)]
 
+mod roles;
+
 ghost use Rattle.std.specs.Prelude.{ℕ, suc, ◌≤◌, ◌-◌, ◌≡◌, ◌<◌, [], ◌++◌, length, drop, Some};
 ghost use Rattle.vl_tree.specs.Words.{next};
 ghost use Rattle.vl_grammar.specs.Read.{Tokens, expr};
 ghost use Rattle.vl_grammar.specs.Spells.{Whole, Ends};
 ghost use Rattle.vl_tree.specs.declared.expressions.Expr.{Expr};
+
+pub use roles::{Role, binds, is_unary, role_of};
 
 /// Each tree takes a token or more.
 #[tactic(auto, using(crate::proofs::Shrinks::whole_shrinks))]
