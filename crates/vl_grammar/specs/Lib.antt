@@ -1,3 +1,4 @@
+pub mod Longest
 pub mod Read
 pub mod Roles
 pub mod Spells

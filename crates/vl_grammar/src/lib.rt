@@ -52,3 +52,9 @@ pub fn spells_alone()
 pub fn spells_before()
     ensures { (t : Expr) (front rest : Tokens) → Whole t front [] → Whole t (front ++ rest) rest }
 {}
+
+/// Where no expression goes on with what stands behind a tree, no tree over the same tokens is longer.
+#[tactic(auto, using(crate::proofs::Longest::none_longer))]
+pub fn ends_the_longest()
+    ensures { (t : Expr) (ts rest : Tokens) → Whole t ts rest → Ends (next rest) → (u : Expr) (back : Tokens) → Whole u ts back → length rest ≤ length back }
+{}
