@@ -4,6 +4,8 @@
 mod errors;
 mod grammar;
 mod parse;
+#[cfg(test)]
+mod tests;
 mod tokens;
 
 pub use errors::ReadError;
