@@ -7,7 +7,9 @@ use Rattle.vl_tree.specs.declared.expressions.Expr.{Expr}
 use Rattle.vl_tree.specs.declared.expressions.Expr.TheVariants as e
 use Rattle.vl_tree.specs.declared.expressions.Select.{Select}
 use Rattle.vl_tree.specs.Words.{word_of, next}
-use Rattle.vl_grammar.specs.Read.{Tokens, Parser, binds, is_unary, list_from, list, select, primary, prefix, climb, joined, expr}
+use Rattle.vl_grammar.specs.Roles.{binds, is_unary}
+use Rattle.vl_grammar.proofs.RoleWords.{binds_small}
+use Rattle.vl_grammar.specs.Read.{Tokens, Parser, list_from, list, select, primary, prefix, climb, joined, expr}
 use Rattle.vl_grammar.specs.Spells.{Bare, Ends, Whole, plain, choice, Joined, alone, binary, Prefix, unary, itself, Primary, number, free_number, name, selected, call, system, group, concat, repeat, Listed, one, more, Selected, index, range, up, down}
 use Rattle.vl_grammar.proofs.Shrinks.{whole_shrinks, joined_shrinks}
 use Rattle.vl_grammar.proofs.Rules as r
@@ -47,27 +49,35 @@ closes_at : (w v : Word) → w ≡ v → Closes v → Closes w
 closes_at w v e b = rw e b
 
 paren : Ends word.RightParen
+unfolding binds
 paren = record { joins = refl; chooses = λ h. cc; bare = record { selects = λ h. cc; calls = λ h. cc } }
 
 bracket : Ends word.RightBracket
+unfolding binds
 bracket = record { joins = refl; chooses = λ h. cc; bare = record { selects = λ h. cc; calls = λ h. cc } }
 
 brace : Ends word.RightBrace
+unfolding binds
 brace = record { joins = refl; chooses = λ h. cc; bare = record { selects = λ h. cc; calls = λ h. cc } }
 
 opening : Ends word.LeftBrace
+unfolding binds
 opening = record { joins = refl; chooses = λ h. cc; bare = record { selects = λ h. cc; calls = λ h. cc } }
 
 comma : Ends word.Comma
+unfolding binds
 comma = record { joins = refl; chooses = λ h. cc; bare = record { selects = λ h. cc; calls = λ h. cc } }
 
 colon : Ends word.Colon
+unfolding binds
 colon = record { joins = refl; chooses = λ h. cc; bare = record { selects = λ h. cc; calls = λ h. cc } }
 
 plus_colon : Ends word.PlusColon
+unfolding binds
 plus_colon = record { joins = refl; chooses = λ h. cc; bare = record { selects = λ h. cc; calls = λ h. cc } }
 
 minus_colon : Ends word.MinusColon
+unfolding binds
 minus_colon = record { joins = refl; chooses = λ h. cc; bare = record { selects = λ h. cc; calls = λ h. cc } }
 
 closes_paren : Closes word.RightParen
@@ -76,11 +86,16 @@ closes_paren = record { ends = paren; no_comma = λ h. cc; no_brace = λ h. cc }
 closes_brace : Closes word.RightBrace
 closes_brace = record { ends = brace; no_comma = λ h. cc; no_brace = λ h. cc }
 
+question_loose : (w : Word) → w ≡ word.Question → binds w ≡ 0
+unfolding binds
+question_loose w h = rw h refl
+
 question : Bare word.Question
 question = record { selects = λ h. cc; calls = λ h. cc }
 
 -- an operator begins no select and no call
 bare_operator : (w : Word) → 0 < binds w → Bare w
+unfolding binds
 bare_operator word.LeftBracket h = absurd (omega arith)
 bare_operator word.LeftParen h = absurd (omega arith)
 bare_operator _ h = record { selects = λ h. cc; calls = λ h. cc }
@@ -118,6 +133,7 @@ one_more_item E x ys k us rest begun h found (suc m) le =
 
 -- the first token of a primary is no operator
 primary_first : {t : Expr} {ts rest : Tokens} → Primary t ts rest → is_unary (next ts) ≡ false
+unfolding is_unary
 primary_first (number h) = rw h
 primary_first (free_number h) = rw h
 primary_first (name h) = rw h
@@ -140,8 +156,8 @@ mutual
   whole_again (choice c q a k b) zero le ends = absurd (omega (arith, joined_shrinks c))
   whole_again (choice {c = c} {a = a} {b = b} {q = q} {k = k} {ts = ts} {us = us} {vs = vs} {rest = rest} dc hq da hk db) (suc f) le ends =
       let at = joined_again dc (suc f) 1 (omega arith) (omega arith) le
-      (record { tight = rw hq (omega arith); bare = bare_at (word_of q) word.Question hq question }) in
-      let first = at.same ∙ r.climb_stops (expr (suc f)) 1 at.turns c (q ∷ us) (rw hq (omega arith)) in
+      (record { tight = omega (arith, question_loose (word_of q) hq); bare = bare_at (word_of q) word.Question hq question }) in
+      let first = at.same ∙ r.climb_stops (expr (suc f)) 1 at.turns c (q ∷ us) (omega (arith, question_loose (word_of q) hq)) in
       r.expr_zero (suc f) ts (q ∷ us) c first ∙ r.choice_reads (expr (suc f)) c a b q k us vs rest hq
       (whole_again da f (omega (arith, joined_shrinks dc)) (ends_at (word_of k) word.Colon hk colon)) hk
       (whole_again db f (omega (arith, joined_shrinks dc, whole_shrinks da)) ends)
@@ -165,7 +181,7 @@ mutual
   prefix_again (unary {op = op} {x = x} {ts = ts} {rest = rest} u d) (suc f) le bare =
       r.unary_reads (expr (suc f)) op x ts rest u
       (r.expr_more f 11 ts ∙ (r.joined_begins (expr f) 12 x ts rest (prefix_again d f (omega arith) bare)
-      ∙ r.climb_stops (expr f) 12 (length rest) x rest (omega (arith, r.binds_small (next rest)))))
+      ∙ r.climb_stops (expr f) 12 (length rest) x rest (omega (arith, binds_small (next rest)))))
   prefix_again {t} {ts} {rest} (itself d) f le bare = r.prefix_primary (expr f) ts (primary_first d) ∙ primary_again d f le bare
 
   pub primary_again : {t : Expr} {ts rest : Tokens} → Primary t ts rest → (f : ℕ) → length ts ≤ f → Bare (next rest) → primary (expr f) ts ≡ Some (t, rest)
@@ -229,6 +245,7 @@ mutual
       (r.bound_reads (expr (suc f)) k z y us rest (whole_again b f (omega (arith, whole_shrinks d)) (ends_at (word_of z) word.RightBracket c bracket)) c)
 
 pub at_end : Ends word.EndOfTokens
+unfolding binds
 at_end = record { joins = refl; chooses = λ h. cc; bare = record { selects = λ h. cc; calls = λ h. cc } }
 
 pub one_tree : {t u : Expr} {ts : Tokens} → Whole t ts [] → Whole u ts [] → t ≡ u

@@ -12,11 +12,14 @@ use Rattle.vl_tree.specs.declared.expressions.Expr.TheVariants as e
 use Rattle.vl_tree.specs.declared.expressions.Select.{Select}
 use Rattle.vl_tree.specs.declared.expressions.Select.TheVariants as s
 use Rattle.vl_tree.specs.Words.{word_of, next, same_word}
-use Rattle.vl_grammar.specs.Read.{Tokens, Outcome, Parser, and_then, token, expect, binds, is_unary, list_from, list_after, list, grouped, call, system, bound, select_by, select, named_by, named, repeated, concat, braced_by, braced, primary_by, primary, prefix, climb, joined, choose, choice_by, choice, expr}
+use Rattle.vl_grammar.specs.declared.roles.Role.{Role}
+use Rattle.vl_grammar.specs.declared.roles.Role.TheVariants as role
+use Rattle.vl_grammar.specs.Roles.{role_of, binds, is_unary}
+use Rattle.vl_grammar.specs.Read.{Tokens, Outcome, Parser, and_then, token, expect, list_from, list_after, list, grouped, call, system, bound, select_by, select, named_by, named, repeated, concat, braced_by, braced, primary_by, primary, prefix, climb, joined, choose, choice_by, choice, expr}
 use Rattle.vl_grammar.specs.Spells as g
 use Rattle.vl_grammar.specs.Spells.{Whole, Joined, alone, binary, Prefix, unary, itself, Primary, Listed, one, more, Selected}
 use Rattle.vl_grammar.proofs.Shrinks.{joined_shrinks}
-use Rattle.vl_grammar.proofs.Rules.{binds_small}
+use Rattle.vl_grammar.proofs.RoleWords.{is_name, is_system, is_left_paren, is_left_bracket, is_right_bracket, is_left_brace, is_colon, is_plus_colon, is_minus_colon, is_question, binds_small}
 
 record Split {A B : Type 0} (o : Outcome A) (f : A → Parser B) (y : B × Tokens) : Type 0 where
   value : A
@@ -77,6 +80,7 @@ tightest (alone d) h = d
 tightest (binary {op = op} pos low at l r) h = absurd (omega (arith, binds_small (word_of op)))
 
 ended : (us : Tokens) → length us ≤ 0 → binds (next us) ≡ 0
+unfolding binds
 ended [] h = refl
 ended (u ∷ us) h = absurd (omega arith)
 
@@ -184,38 +188,38 @@ module _ (E : ℕ → Parser Expr) (H : (n : ℕ) (ts rest : Tokens) (t : Expr) 
       let b = bound_sound y k us rest h in
       record { sign = k; middle = us; close = b.close; left = H 0 ts (k ∷ us) x r; sign_is = n; right = b.whole; close_is = b.word_is }
 
-  select_by_sound : (x : Expr) (w : Word) (t : Select) (ts us rest : Tokens) → E 0 ts ≡ got x us → next us ≡ w → select_by E x w us ≡ got t rest → Selected t ts rest
-  select_by_sound x word.RightBracket t ts us rest r n h =
+  select_by_sound : (x : Expr) (w : Role) (t : Select) (ts us rest : Tokens) → E 0 ts ≡ got x us → role_of (next us) ≡ w → select_by E x w us ≡ got t rest → Selected t ts rest
+  select_by_sound x role.RightBracket t ts us rest r n h =
       let i = split (token us) _ _ h in
-      let b = seen_behind word.RightBracket x i.value ts us i.behind r n i.was in
+      let b = seen_behind word.RightBracket x i.value ts us i.behind r (is_right_bracket (next us) n) i.was in
       carry (λ t rest. Selected t ts rest) (s.Index x) t i.behind rest i.goes (g.index b.whole b.word_is)
-  select_by_sound x word.Colon t ts us rest r n h =
+  select_by_sound x role.Colon t ts us rest r n h =
       let i = split (bound E us) _ _ h in
-      let b = pairs word.Colon x i.value ts us i.behind r n i.was in
+      let b = pairs word.Colon x i.value ts us i.behind r (is_colon (next us) n) i.was in
       carry (λ t rest. Selected t ts rest) (s.Range x i.value) t i.behind rest i.goes (g.range b.left b.sign_is b.right b.close_is)
-  select_by_sound x word.PlusColon t ts us rest r n h =
+  select_by_sound x role.PlusColon t ts us rest r n h =
       let i = split (bound E us) _ _ h in
-      let b = pairs word.PlusColon x i.value ts us i.behind r n i.was in
+      let b = pairs word.PlusColon x i.value ts us i.behind r (is_plus_colon (next us) n) i.was in
       carry (λ t rest. Selected t ts rest) (s.Up x i.value) t i.behind rest i.goes (g.up b.left b.sign_is b.right b.close_is)
-  select_by_sound x word.MinusColon t ts us rest r n h =
+  select_by_sound x role.MinusColon t ts us rest r n h =
       let i = split (bound E us) _ _ h in
-      let b = pairs word.MinusColon x i.value ts us i.behind r n i.was in
+      let b = pairs word.MinusColon x i.value ts us i.behind r (is_minus_colon (next us) n) i.was in
       carry (λ t rest. Selected t ts rest) (s.Down x i.value) t i.behind rest i.goes (g.down b.left b.sign_is b.right b.close_is)
   select_by_sound x _ t ts us rest r n h = cc
 
   select_sound : (t : Select) (ts rest : Tokens) → select E ts ≡ got t rest → Selected t ts rest
   unfolding select
-  select_sound t ts rest h = let i = split (E 0 ts) _ _ h in select_by_sound i.value (next i.behind) t ts i.behind rest i.was refl i.goes
+  select_sound t ts rest h = let i = split (E 0 ts) _ _ h in select_by_sound i.value (role_of (next i.behind)) t ts i.behind rest i.was refl i.goes
 
-  named_by_sound : (n : Token) (w : Word) (t : Expr) (ts rest : Tokens) → word_of n ≡ word.Name → next ts ≡ w → named_by E n w ts ≡ got t rest → Primary t (n ∷ ts) rest
-  named_by_sound n word.LeftParen t ts rest hn hw h =
+  named_by_sound : (n : Token) (w : Role) (t : Expr) (ts rest : Tokens) → word_of n ≡ word.Name → role_of (next ts) ≡ w → named_by E n w ts ≡ got t rest → Primary t (n ∷ ts) rest
+  named_by_sound n role.LeftParen t ts rest hn hw h =
       let i = split (token ts) _ _ h in
-      let k = taken word.LeftParen ts i.behind i.value hw i.was in
+      let k = taken word.LeftParen ts i.behind i.value (is_left_paren (next ts) hw) i.was in
       subst (λ z. Primary t (n ∷ z) rest) (sym k.is) (call_sound n i.value t i.behind rest hn k.word_is i.goes)
-  named_by_sound n word.LeftBracket t ts rest hn hw h =
+  named_by_sound n role.LeftBracket t ts rest hn hw h =
       let o = split (and_then (token ts) (λ _. select E)) _ _ h in
       let i = split (token ts) _ _ o.was in
-      let k = taken word.LeftBracket ts i.behind i.value hw i.was in
+      let k = taken word.LeftBracket ts i.behind i.value (is_left_bracket (next ts) hw) i.was in
       carry (λ t rest. Primary t (n ∷ ts) rest) (e.Name n (o.value ∷ [])) t o.behind rest o.goes
       (subst (λ z. Primary (e.Name n (o.value ∷ [])) (n ∷ z) o.behind) (sym k.is) (g.selected hn k.word_is (select_sound o.value i.behind o.behind i.goes)))
   named_by_sound n _ t ts rest hn hw h = carry (λ t rest. Primary t (n ∷ ts) rest) (e.Name n []) t ts rest h (g.name hn)
@@ -242,36 +246,41 @@ module _ (E : ℕ → Parser Expr) (H : (n : ℕ) (ts rest : Tokens) (t : Expr) 
       let l = list_behind word.RightBrace i.value j.value ts i.behind j.behind (list_after_sound x i.value ts us i.behind d i.was) y in
       carry (λ t rest. Primary t (a ∷ ts) rest) (e.Concat i.value) t j.behind rest j.goes (g.concat ha l y.word_is)
 
-  braced_by_sound : (a : Token) (x : Expr) (w : Word) (t : Expr) (ts us rest : Tokens) → word_of a ≡ word.LeftBrace → E 0 ts ≡ got x us → next us ≡ w
+  braced_by_sound : (a : Token) (x : Expr) (w : Role) (t : Expr) (ts us rest : Tokens) → word_of a ≡ word.LeftBrace → E 0 ts ≡ got x us → role_of (next us) ≡ w
       → braced_by E x w us ≡ got t rest → Primary t (a ∷ ts) rest
-  braced_by_sound a x word.LeftBrace t ts us rest ha r hw h =
+  braced_by_sound a x role.LeftBrace t ts us rest ha r hw h =
       let i = split (token us) _ _ h in
-      let b = seen_behind word.LeftBrace x i.value ts us i.behind r hw i.was in
+      let b = seen_behind word.LeftBrace x i.value ts us i.behind r (is_left_brace (next us) hw) i.was in
       repeated_sound a b.mark x t ts i.behind rest ha b.whole b.word_is i.goes
   braced_by_sound a x _ t ts us rest ha r hw h = concat_sound a x t ts us rest ha (H 0 ts us x r) h
 
   braced_sound : (a : Token) (t : Expr) (ts rest : Tokens) → word_of a ≡ word.LeftBrace → braced E ts ≡ got t rest → Primary t (a ∷ ts) rest
   unfolding braced
-  braced_sound a t ts rest ha h = let i = split (E 0 ts) _ _ h in braced_by_sound a i.value (next i.behind) t ts i.behind rest ha i.was refl i.goes
+  braced_sound a t ts rest ha h = let i = split (E 0 ts) _ _ h in braced_by_sound a i.value (role_of (next i.behind)) t ts i.behind rest ha i.was refl i.goes
 
   named_sound : (n : Token) (t : Expr) (ts rest : Tokens) → word_of n ≡ word.Name → named E n ts ≡ got t rest → Primary t (n ∷ ts) rest
   unfolding named
-  named_sound n t ts rest hn h = named_by_sound n (next ts) t ts rest hn refl h
+  named_sound n t ts rest hn h = named_by_sound n (role_of (next ts)) t ts rest hn refl h
 
-  primary_by_sound : (w : Word) (a : Token) (t : Expr) (ts rest : Tokens) → word_of a ≡ w → primary_by E w a ts ≡ got t rest → Primary t (a ∷ ts) rest
-  primary_by_sound word.Number a t ts rest ha h = carry (λ t rest. Primary t (a ∷ ts) rest) (e.Number a) t ts rest h (g.number ha)
-  primary_by_sound word.FreeNumber a t ts rest ha h = carry (λ t rest. Primary t (a ∷ ts) rest) (e.Number a) t ts rest h (g.free_number ha)
-  primary_by_sound word.Name a t ts rest ha h = named_sound a t ts rest ha h
-  primary_by_sound word.System a t ts rest ha h = system_sound a t ts rest ha h
-  primary_by_sound word.LeftParen a t ts rest ha h = grouped_sound a t ts rest ha h
-  primary_by_sound word.LeftBrace a t ts rest ha h = braced_sound a t ts rest ha h
+  number_sound : (w : Word) (a : Token) (ts : Tokens) → word_of a ≡ w → role_of w ≡ role.Number → Primary (e.Number a) (a ∷ ts) ts
+  unfolding role_of
+  number_sound word.Number a ts h r = g.number h
+  number_sound word.FreeNumber a ts h r = g.free_number h
+  number_sound _ a ts h r = cc
+
+  primary_by_sound : (w : Role) (a : Token) (t : Expr) (ts rest : Tokens) → role_of (word_of a) ≡ w → primary_by E w a ts ≡ got t rest → Primary t (a ∷ ts) rest
+  primary_by_sound role.Number a t ts rest ha h = carry (λ t rest. Primary t (a ∷ ts) rest) (e.Number a) t ts rest h (number_sound (word_of a) a ts refl ha)
+  primary_by_sound role.Name a t ts rest ha h = named_sound a t ts rest (is_name (word_of a) ha) h
+  primary_by_sound role.System a t ts rest ha h = system_sound a t ts rest (is_system (word_of a) ha) h
+  primary_by_sound role.LeftParen a t ts rest ha h = grouped_sound a t ts rest (is_left_paren (word_of a) ha) h
+  primary_by_sound role.LeftBrace a t ts rest ha h = braced_sound a t ts rest (is_left_brace (word_of a) ha) h
   primary_by_sound _ a t ts rest ha h = cc
 
   primary_sound : (t : Expr) (ts rest : Tokens) → primary E ts ≡ got t rest → Primary t ts rest
   unfolding primary
   primary_sound t ts rest h =
       let i = split (token ts) _ _ h in
-      subst (λ z. Primary t z rest) (sym (token_ok ts i.behind i.value i.was)) (primary_by_sound (word_of i.value) i.value t i.behind rest refl i.goes)
+      subst (λ z. Primary t z rest) (sym (token_ok ts i.behind i.value i.was)) (primary_by_sound (role_of (word_of i.value)) i.value t i.behind rest refl i.goes)
 
   prefix_by_sound : (t : Expr) (ts rest : Tokens) (b : Bool) → is_unary (next ts) ≡ b
       → if◌then◌else◌ {A = Parser Expr} b (λ ts. and_then (token ts) (λ op us. and_then (E 12 us) (λ x us. got (e.Unary op x) us))) (primary E) ts ≡ got t rest → Prefix t ts rest
@@ -344,10 +353,10 @@ module _ (E : ℕ → Parser Expr) (H : (n : ℕ) (ts rest : Tokens) (t : Expr) 
       carry (λ t rest. Whole t ts rest) (e.Choice c i.value j.value) t j.behind rest j.goes
       (g.choice d hq a.whole a.word_is (H 0 k.behind j.behind j.value j.was))
 
-  choice_by_sound : (c t : Expr) (w : Word) (ts us rest : Tokens) → Joined 1 c ts us → next us ≡ w → choice_by E c w us ≡ got t rest → Whole t ts rest
-  choice_by_sound c t word.Question ts us rest d hw h =
+  choice_by_sound : (c t : Expr) (w : Role) (ts us rest : Tokens) → Joined 1 c ts us → role_of (next us) ≡ w → choice_by E c w us ≡ got t rest → Whole t ts rest
+  choice_by_sound c t role.Question ts us rest d hw h =
       let i = split (token us) _ _ h in
-      let k = taken word.Question us i.behind i.value hw i.was in
+      let k = taken word.Question us i.behind i.value (is_question (next us) hw) i.was in
       choose_sound c t i.value ts i.behind rest (subst (λ z. Joined 1 c ts z) k.is d) k.word_is i.goes
   choice_by_sound c t _ ts us rest d hw h = carry (λ t rest. Whole t ts rest) c t us rest h (g.plain d)
 
@@ -355,7 +364,7 @@ module _ (E : ℕ → Parser Expr) (H : (n : ℕ) (ts rest : Tokens) (t : Expr) 
   unfolding choice
   whole_sound t ts rest h =
       let i = split (joined E 1 ts) _ _ h in
-      choice_by_sound i.value t (next i.behind) ts i.behind rest (joined_sound 1 i.value ts i.behind (omega arith) i.was).0 refl i.goes
+      choice_by_sound i.value t (role_of (next i.behind)) ts i.behind rest (joined_sound 1 i.value ts i.behind (omega arith) i.was).0 refl i.goes
 
 pub expr_sound : (f n : ℕ) (ts rest : Tokens) (t : Expr) → expr f n ts ≡ Some (t, rest) → At n t ts rest
 unfolding expr

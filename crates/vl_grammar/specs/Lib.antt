@@ -1,2 +1,4 @@
+pub mod Longest
 pub mod Read
+pub mod Roles
 pub mod Spells

@@ -8,6 +8,9 @@ use Rattle.vl_tree.specs.declared.expressions.Expr.TheVariants as e
 use Rattle.vl_tree.specs.declared.expressions.Select.{Select}
 use Rattle.vl_tree.specs.declared.expressions.Select.TheVariants as s
 use Rattle.vl_tree.specs.Words.{word_of, next, same_word}
+use Rattle.vl_grammar.specs.declared.roles.Role.{Role}
+use Rattle.vl_grammar.specs.declared.roles.Role.TheVariants as role
+use Rattle.vl_grammar.specs.Roles.{role_of, binds, is_unary}
 
 abbrev pub Tokens : Type 0
 Tokens = List Token
@@ -40,6 +43,10 @@ refuse = λ _. None
 abbrev pub peek : Parser Word
 peek = λ ts. Some (next ts, ts)
 
+-- the role of the next token
+abbrev pub ahead : Parser Role
+ahead = λ ts. Some (role_of (next ts), ts)
+
 abbrev pub token : Parser Token
 token [] = None
 token (t ∷ ts) = Some (t, ts)
@@ -48,48 +55,6 @@ token (t ∷ ts) = Some (t, ts)
 abbrev pub expect : Word → Parser Token
 expect w [] = None
 expect w (t ∷ ts) = if same_word (word_of t) w then Some (t, ts) else None
-
--- how tightly a word binds between two operands, and 0 for one that does not
-abbrev pub binds : Word → ℕ
-binds word.BarBar = 1
-binds word.AmpersandAmpersand = 2
-binds word.Bar = 3
-binds word.Caret = 4
-binds word.CaretTilde = 4
-binds word.TildeCaret = 4
-binds word.Ampersand = 5
-binds word.EqualEqual = 6
-binds word.NotEqual = 6
-binds word.Less = 7
-binds word.LessEqual = 7
-binds word.Greater = 7
-binds word.GreaterEqual = 7
-binds word.ShiftLeft = 8
-binds word.ShiftRight = 8
-binds word.ShiftLeftSigned = 8
-binds word.ShiftRightSigned = 8
-binds word.Plus = 9
-binds word.Minus = 9
-binds word.Star = 10
-binds word.Slash = 10
-binds word.Percent = 10
-binds word.StarStar = 11
-binds _ = 0
-
--- an operator before one operand
-abbrev pub is_unary : Word → Bool
-is_unary word.Plus = true
-is_unary word.Minus = true
-is_unary word.Bang = true
-is_unary word.Tilde = true
-is_unary word.Ampersand = true
-is_unary word.TildeAmpersand = true
-is_unary word.Bar = true
-is_unary word.TildeBar = true
-is_unary word.Caret = true
-is_unary word.TildeCaret = true
-is_unary word.CaretTilde = true
-is_unary _ = false
 
 -- The number is the least level of the expression that is read.
 module _ (expr : ℕ → Parser Expr) where
@@ -138,26 +103,26 @@ module _ (expr : ℕ → Parser Expr) where
     pure second
 
   -- after the first bound
-  abbrev pub select_by : Expr → Word → Parser Select
-  select_by first word.RightBracket = token >> pure (s.Index first)
-  select_by first word.Colon = bound >>= λ second. pure (s.Range first second)
-  select_by first word.PlusColon = bound >>= λ second. pure (s.Up first second)
-  select_by first word.MinusColon = bound >>= λ second. pure (s.Down first second)
+  abbrev pub select_by : Expr → Role → Parser Select
+  select_by first role.RightBracket = token >> pure (s.Index first)
+  select_by first role.Colon = bound >>= λ second. pure (s.Range first second)
+  select_by first role.PlusColon = bound >>= λ second. pure (s.Up first second)
+  select_by first role.MinusColon = bound >>= λ second. pure (s.Down first second)
   select_by first _ = refuse
 
   unfoldable pub select : Parser Select
   select = do
     first ← whole
-    seen ← peek
+    seen ← ahead
     select_by first seen
 
-  abbrev pub named_by : Token → Word → Parser Expr
-  named_by name word.LeftParen = token >> call name
-  named_by name word.LeftBracket = (token >> select) >>= λ found. pure (e.Name name (found ∷ []))
+  abbrev pub named_by : Token → Role → Parser Expr
+  named_by name role.LeftParen = token >> call name
+  named_by name role.LeftBracket = (token >> select) >>= λ found. pure (e.Name name (found ∷ []))
   named_by name _ = pure (e.Name name [])
 
   unfoldable pub named : Token → Parser Expr
-  named name = peek >>= named_by name
+  named name = ahead >>= named_by name
 
   unfoldable pub repeated : Expr → Parser Expr
   repeated count = do
@@ -172,27 +137,26 @@ module _ (expr : ℕ → Parser Expr) where
     expect word.RightBrace
     pure (e.Concat parts)
 
-  abbrev pub braced_by : Expr → Word → Parser Expr
-  braced_by first word.LeftBrace = token >> repeated first
+  abbrev pub braced_by : Expr → Role → Parser Expr
+  braced_by first role.LeftBrace = token >> repeated first
   braced_by first _ = concat first
 
   unfoldable pub braced : Parser Expr
   braced = do
     first ← whole
-    seen ← peek
+    seen ← ahead
     braced_by first seen
 
-  abbrev pub primary_by : Word → Token → Parser Expr
-  primary_by word.Number t = pure (e.Number t)
-  primary_by word.FreeNumber t = pure (e.Number t)
-  primary_by word.Name t = named t
-  primary_by word.System t = system t
-  primary_by word.LeftParen t = grouped
-  primary_by word.LeftBrace t = braced
+  abbrev pub primary_by : Role → Token → Parser Expr
+  primary_by role.Number t = pure (e.Number t)
+  primary_by role.Name t = named t
+  primary_by role.System t = system t
+  primary_by role.LeftParen t = grouped
+  primary_by role.LeftBrace t = braced
   primary_by _ t = refuse
 
   unfoldable pub primary : Parser Expr
-  primary = token >>= λ t. primary_by (word_of t) t
+  primary = token >>= λ t. primary_by (role_of (word_of t)) t
 
   unfoldable pub prefix : Parser Expr
   prefix = do
@@ -216,12 +180,12 @@ module _ (expr : ℕ → Parser Expr) where
     b ← whole
     pure (e.Choice test a b)
 
-  abbrev pub choice_by : Expr → Word → Parser Expr
-  choice_by test word.Question = token >> choose test
+  abbrev pub choice_by : Expr → Role → Parser Expr
+  choice_by test role.Question = token >> choose test
   choice_by test _ = pure test
 
   unfoldable pub choice : Expr → Parser Expr
-  choice test = peek >>= choice_by test
+  choice test = ahead >>= choice_by test
 
   abbrev pub level : ℕ → Parser Expr
   level zero = joined 1 >>= choice

@@ -8,7 +8,8 @@ use Rattle.vl_tree.specs.declared.expressions.Expr.TheVariants as e
 use Rattle.vl_tree.specs.declared.expressions.Select.{Select}
 use Rattle.vl_tree.specs.declared.expressions.Select.TheVariants as s
 use Rattle.vl_tree.specs.Words.{word_of}
-use Rattle.vl_grammar.specs.Read.{Tokens, binds, is_unary}
+use Rattle.vl_grammar.specs.Roles.{binds, is_unary}
+use Rattle.vl_grammar.specs.Read.{Tokens}
 
 mutual
   -- an expression

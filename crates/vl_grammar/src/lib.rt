@@ -1,11 +1,15 @@
 //! The grammar of expressions, and laws about it.
 #![tactic(auto)]
 
+mod roles;
+
 ghost use Rattle.std.specs.Prelude.{ℕ, suc, ◌≤◌, ◌-◌, ◌≡◌, ◌<◌, [], ◌++◌, length, drop, Some};
 ghost use Rattle.vl_tree.specs.Words.{next};
 ghost use Rattle.vl_grammar.specs.Read.{Tokens, expr};
 ghost use Rattle.vl_grammar.specs.Spells.{Whole, Ends};
 ghost use Rattle.vl_tree.specs.declared.expressions.Expr.{Expr};
+
+pub use roles::{Role, binds, is_unary, role_of};
 
 /// Each tree takes a token or more.
 #[tactic(auto, using(crate::proofs::Shrinks::whole_shrinks))]
@@ -47,4 +51,10 @@ pub fn spells_alone()
 #[tactic(auto, using(crate::proofs::Cuts::before_law))]
 pub fn spells_before()
     ensures { (t : Expr) (front rest : Tokens) → Whole t front [] → Whole t (front ++ rest) rest }
+{}
+
+/// Where no expression goes on with what stands behind a tree, no tree over the same tokens is longer.
+#[tactic(auto, using(crate::proofs::Longest::none_longer))]
+pub fn ends_the_longest()
+    ensures { (t : Expr) (ts rest : Tokens) → Whole t ts rest → Ends (next rest) → (u : Expr) (back : Tokens) → Whole u ts back → length rest ≤ length back }
 {}

@@ -1,0 +1,60 @@
+-- What an answer of the reader says of the tokens between two places.
+use Rattle.std.proofs.Common.{◌≡◌, ◌≢◌, ℕ, suc, ◌-◌, ◌<◌, ◌≤◌, length, take, drop, inl, inr, refl, subst, arith}
+use Rattle.std.proofs.lemmas.Bool.{cases_lt}
+use Rattle.std.specs.Prelude.{Result, Ok, Err}
+use Rattle.vl_tree.specs.declared.words.Word.{Word}
+use Rattle.vl_tree.specs.declared.words.Word.TheVariants as word
+use Rattle.vl_tree.specs.declared.expressions.Expr.{Expr}
+use Rattle.vl_grammar.specs.declared.roles.Role.TheVariants as role
+use Rattle.vl_grammar.specs.Roles.{role_of, binds}
+use Rattle.vl_grammar.specs.Read.{Tokens, expr}
+use Rattle.vl_grammar.specs.Spells.{Ends}
+use Rattle.vl_grammar.specs.Longest.{Stands, NoneBegins}
+use Rattle.vl_grammar.proofs.Longest.{front_refused, none_empty}
+use Rattle.vl_expr.specs.declared.errors.ReadError.{ReadError}
+use Rattle.vl_expr.specs.declared.errors.ReadError.TheVariants.{NoMemory, Refused}
+use Rattle.vl_expr.specs.Gives.{Gives}
+
+pub error_none : {X : Type 0} (view : X → Expr × Tokens) (ts : Tokens) (at end : ℕ) (error : ReadError)
+    → Gives view (Err error) (expr (suc (length (take (end - at) (drop at ts)))) 0 (take (end - at) (drop at ts)))
+    → ◌≡◌ {A = Result Expr ReadError} (Err error) (Err Refused) → (t : Expr) → Stands t ts at end → ⊥
+error_none view ts at end NoMemory g e t d = cc
+error_none view ts at end Refused g e t d = front_refused ts at end g t d
+
+question_role : (w : Word) → w ≡ word.Question → role_of w ≡ role.Question
+unfolding role_of
+question_role w h = rw h refl
+
+bracket_role : (w : Word) → w ≡ word.LeftBracket → role_of w ≡ role.LeftBracket
+unfolding role_of
+bracket_role w h = rw h refl
+
+paren_role : (w : Word) → w ≡ word.LeftParen → role_of w ≡ role.LeftParen
+unfolding role_of
+paren_role w h = rw h refl
+
+pub ends_by_role : (w : Word) → role_of w ≢ role.Question → role_of w ≢ role.LeftBracket → role_of w ≢ role.LeftParen → binds w ≡ 0 → Ends w
+ends_by_role w q b p j = record {
+  joins = j;
+  chooses = λ h. q (question_role w h);
+  bare = record { selects = λ h. b (bracket_role w h); calls = λ h. p (paren_role w h) };
+}
+
+-- one end less to try
+pub one_end_less : (ts : Tokens) (at end : ℕ) → ((t : Expr) (n : ℕ) → end < n → Stands t ts at n → ⊥) → ((t : Expr) → Stands t ts at end → ⊥)
+    → (t : Expr) (n : ℕ) → end - 1 < n → Stands t ts at n → ⊥
+one_end_less ts at end more here t n less d = elim (cases_lt end n) [
+  | inl l ↦ more t n l d
+  | inr l ↦ let is : n ≡ end = omega arith in here t (subst (λ z. Stands t ts at z) is d)
+]
+
+-- no end is left
+pub no_end_left : (ts : Tokens) (at end : ℕ) → ((t : Expr) (n : ℕ) → end < n → Stands t ts at n → ⊥) → end ≤ at → NoneBegins ts at
+no_end_left ts at end more le t n d = elim (cases_lt end n) [
+  | inl l ↦ more t n l d
+  | inr l ↦ none_empty ts at t n (omega arith) d
+]
+
+-- none begins where no token stands
+pub none_behind : (ts : Tokens) (at : ℕ) → length ts ≤ at → NoneBegins ts at
+none_behind ts at le t n d = none_empty ts at t n (omega (arith, d.within)) d

@@ -1,0 +1,12 @@
+//! Reading expressions (IEEE 1364-2005, A.8.3 and A.8.4, with the levels of 5.1.2).
+#![tactic(auto)]
+
+mod errors;
+mod grammar;
+mod parse;
+#[cfg(test)]
+mod tests;
+mod tokens;
+
+pub use errors::ReadError;
+pub use parse::{parse_expr, read_expr};
