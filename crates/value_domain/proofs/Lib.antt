@@ -1,2 +1,4 @@
 pub mod LengthLaws
 pub mod LoopLaws
+pub mod PlaceLaws
+pub mod WordLaws

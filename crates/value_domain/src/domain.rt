@@ -89,4 +89,7 @@ pub trait Domain {
         requires { meaning.is_value self.old a.now }
         ensures made { IfOk result (λ r. Stands meaning self.new r (meaning.width a.now) (λ v. meaning.reads self.old v a.now)) }
         ensures kept { Keeps meaning self.old self.new };
+
+    /// A value reads as so many bits as it is wide.
+    ghost as_wide: { (domain : Self) (v : ℕ → Bool) (x : Self.Value) → meaning.is_value domain x → length (meaning.reads domain v x) ≡ meaning.width x };
 }

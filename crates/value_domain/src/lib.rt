@@ -3,10 +3,12 @@
 
 mod domain;
 mod operators;
+mod parts;
 mod plain;
 mod words;
 
 pub use domain::Domain;
+pub use parts::{Word, concatenate, guarded, join, matched, narrowed, repeat};
 pub use plain::BitsDomain;
 
 #[cfg(test)]

@@ -1,4 +1,4 @@
-ghost use Rattle.std.specs.Prelude.{◌≡◌, length};
+ghost use Rattle.std.specs.Prelude.{◌≡◌, length, refl};
 ghost use Rattle.value_domain.specs.Meaning.{Meaning};
 
 use crate::domain::Domain;
@@ -25,6 +25,8 @@ impl Domain for BitsDomain {
     type Value = Bits;
 
     ghost meaning = { record { width = length; is_value = λ domain x. Unit {0}; reads = λ domain v x. x } };
+
+    ghost as_wide = { λ domain v x h. refl };
 
     fn constant(&mut self, bits: &Bits) -> Result<Bits, NoMemory> {
         Bits::copy(self.alloc, bits)
