@@ -1,6 +1,5 @@
 -- The outcome by what the reads gave.
-use Rattle.std.proofs.Common.{rules, subst, ◌≡◌, ◌≤◌, ◌<◌, ◌∙◌, ℕ, Bool, true, false, length, Option, Some, None, IfSome, refl, sym, ap, inl, inr, nat_lt, if◌then◌else◌}
-use Rattle.std.specs.Str.{bytes_eq}
+use Rattle.std.proofs.Common.{rules, subst, ◌≡◌, ◌≤◌, ◌<◌, ℕ, Bool, true, false, length, Option, Some, None, IfSome, refl, sym, nat_lt}
 use Rattle.shelf_io.specs.Files.{Files}
 use Rattle.shelf_io.specs.Shelf.{IsLonger}
 use Rattle.conncheck.specs.Answers.{without}

@@ -6,3 +6,4 @@ pub mod ReadLaws
 pub mod LogLaws
 pub mod WalkLaws
 pub mod WordLaws
+pub mod NeedLaws

@@ -1,14 +1,13 @@
 -- The outcome by the files that were read.
-use Rattle.std.proofs.Common.{rules, arith, subst, zero, suc, ◌^◌, ◌≡◌, ◌≤◌, ◌∙◌, ◌++◌, ℕ, Bool, true, false, List, [], ◌∷◌, length, Option, Some, None, Result, Ok, Err, refl, sym, ap, inl, inr, if◌then◌else◌, ◌<◌, ◌+◌, map, take, drop, get_or, add-one, drop-cons}
+use Rattle.std.proofs.Common.{rules, arith, subst, zero, suc, ◌^◌, ◌≡◌, ◌≤◌, ◌∙◌, ◌++◌, ℕ, Bool, true, false, List, [], ◌∷◌, length, Option, Some, None, Result, Err, refl, sym, ap, inl, inr, if◌then◌else◌, ◌<◌, ◌+◌, map, take, drop, get_or, add-one, drop-cons}
 use Rattle.std.proofs.lemmas.List.{map-append, take-append-drop, take_more}
 use Rattle.std.specs.Str.{bytes_eq}
 use Rattle.bits_core.specs.declared.names.File.{File}
 use Rattle.shelf_io.specs.Files.{Files}
-use Rattle.shelf_io.specs.Shelf.{IsLonger}
 use Rattle.conncheck.specs.Answers.{Allows, without}
 use Rattle.conncheck.specs.Command.{Text}
 use Rattle.conncheck.specs.Ends.{Ends, EndsFor}
-use Rattle.conncheck.specs.Outcome.{OfFile, OfFiles, Outcome, missing, most, too_long}
+use Rattle.conncheck.specs.Outcome.{OfFiles, Outcome, missing, too_long}
 use Rattle.conncheck.specs.Reads.{AreRead, AreSmall, IsRead, MeetsLonger, Reaches, ReadsOne, StopsAt, UnreadEnds}
 use Rattle.conncheck.specs.declared.reads.Unread.{Unread}
 use Rattle.conncheck.specs.declared.reads.Unread.TheVariants.{Missing, TooLong, NoMemory}

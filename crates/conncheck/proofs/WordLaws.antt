@@ -1,7 +1,7 @@
 -- The words of options.
-use Rattle.std.proofs.Common.{arith, ◌≡◌, ◌≤◌, ◌-◌, ◌∙◌, ℕ, true, false, List, [], ◌∷◌, length, take, drop, get_or, Some, refl, sym, ap, if◌then◌else◌, None}
+use Rattle.std.proofs.Common.{arith, ◌≡◌, ◌≤◌, ◌-◌, ◌∙◌, true, false, List, [], ◌∷◌, length, take, drop, get_or, Some, sym, ap, if◌then◌else◌, None}
 use Rattle.std.proofs.lemmas.List.{take_all}
-use Rattle.conncheck.specs.Command.{Text, Command, Given, check_from, files_with, is_plain, option_then, with_option}
+use Rattle.conncheck.specs.Command.{Text, Given, check_from, files_with, is_plain, option_then, with_option}
 
 pub two : {X : Type 0} (xs : List X) (d e : X) → 2 ≤ length xs → xs ≡ get_or xs 0 d ∷ get_or xs 1 e ∷ take (length xs - 2) (drop 2 xs)
 two [] d e h = absurd (omega arith)

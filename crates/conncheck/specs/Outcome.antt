@@ -1,7 +1,6 @@
 -- What a call comes to, by its words and files.
 use Rattle.std.specs.Prelude.{◌≡◌, List, [], ◌∷◌, ◌++◌, ℕ, zero, suc, Bool, true, false, Option, Some, None, Ok, Err, if◌then◌else◌, nat_lt, codes, map, length, flat_map}
 use Rattle.std.specs.List.{list_all}
-use Rattle.std.specs.Str.{is_utf8}
 use Rattle.design_core.specs.Cells.{In}
 use Rattle.shelf_io.specs.Files.{Files}
 use Rattle.plain_form.specs.Table.{Row, rows_of}
@@ -127,25 +126,20 @@ OfLogs [] o = IsLogged (IsJudgedOne []) o
 OfLogs (f ∷ []) o = IsLogged (IsJudgedOne (text_lines f.bytes)) o
 OfLogs (f ∷ l ∷ fs) o = IsLogged (IsJudged 0 (text_lines f.bytes) (text_lines l.bytes)) o
 
--- what the walk over the files that were read comes to; a walk never ends with want of memory
+-- what the walk over the files that were read comes to; no walk ends with want of memory
 abbrev pub OfReached : Check → Text → List File → (Text → Outcome → Type 0) → Reached (List Seen) → Outcome → Type 0
 OfReached c table fs Need (Ok tokens) o = OfWords c table (map (λ t. t.text) tokens) o
 OfReached c table fs Need (Err (halt.Stop (stop.Fault f))) o = o ≡ refused f.code (place_text fs f.place)
 OfReached c table fs Need (Err (halt.Stop (stop.Limit l))) o = o ≡ limited l
-OfReached c table fs Need (Err (halt.Stop stop.NoMemory)) o = o ≡ not_yet (first_of c.files)
+OfReached c table fs Need (Err (halt.Stop stop.NoMemory)) o = ⊥
 OfReached c table fs Need (Err (halt.Need n)) o = Need n o
-
--- a file that the walk asks for; a walk never asks for a name that is no text
-abbrev pub OfNeeded : Bool → Check → Text → (File → Outcome → Type 0) → Files → Outcome → Type 0
-OfNeeded true c n next files o = OfFile n (λ bytes. next (record { name = n; bytes = bytes })) (files n) o
-OfNeeded false c n next files o = o ≡ not_yet (first_of c.files)
 
 -- The walk over the named sources and what they include: a file that it asks for is read and stands behind the others, and the walk begins anew. So many files
 -- may be read on the way.
 unfoldable pub OfWalk : ℕ → Check → Text → ℕ → List File → Files → Outcome → Type 0
 OfWalk zero c table named fs files o = OfReached c table fs (λ n x. x ≡ limited code.Files) (kept fs named c.defines) o
 OfWalk (suc left) c table named fs files o =
-    OfReached c table fs (λ n. OfNeeded (is_utf8 n) c n (λ f. OfWalk left c table named (fs ++ f ∷ []) files) files) (kept fs named c.defines) o
+    OfReached c table fs (λ n. OfFile n (λ bytes. OfWalk left c table named (fs ++ (record { name = n; bytes = bytes }) ∷ []) files) (files n)) (kept fs named c.defines) o
 
 -- no check has more files
 unfoldable pub most_included : ℕ

@@ -6,7 +6,7 @@ use Rattle.shelf_io.specs.Files.{Files}
 use Rattle.shelf_io.specs.Shelf.{IsLonger}
 use Rattle.conncheck.specs.Command.{Text}
 use Rattle.conncheck.specs.Ends.{Ends}
-use Rattle.conncheck.specs.Outcome.{Outcome, missing, most, too_long}
+use Rattle.conncheck.specs.Outcome.{missing, most, too_long}
 use Rattle.conncheck.specs.declared.reads.Unread.{Unread}
 use Rattle.conncheck.specs.declared.reads.Unread.TheVariants.{Missing, TooLong, NoMemory}
 use Rattle.conncheck.specs.declared.status.Status.{Status}

@@ -93,9 +93,7 @@ fn walk_from<H: Shelf, K: Sink>(
     if left == 0 {
         return say_limit(alloc, Code::Files, out);
     }
-    let Ok(text) = str::from_utf8(name.as_slice()) else {
-        return say_not_yet(alloc, first_of(command.files), out);
-    };
+    let text = str::from_utf8(name.as_slice()).unwrap();
     let file = match read_one(alloc, text, shelf) {
         Ok(file) => file,
         Err(unread) => return say_unread(alloc, unread, out),

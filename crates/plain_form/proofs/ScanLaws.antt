@@ -1,5 +1,5 @@
 -- Going over a text byte by byte.
-use Rattle.std.proofs.Common.{rules, suc, ◌≡◌, ◌<◌, ◌≤◌, ◌+◌, ◌-◌, ◌++◌, ◌∙◌, ℕ, true, false, List, [], ◌∷◌, length, take, drop, get_or, slice_range, refl, sym, ap, ap₂, arith, add-one, drop-cons, ◌==◌, append_assoc, if◌then◌else◌}
+use Rattle.std.proofs.Common.{rules, suc, ◌≡◌, ◌<◌, ◌≤◌, ◌+◌, ◌-◌, ◌++◌, ◌∙◌, ℕ, true, false, List, [], ◌∷◌, length, take, drop, get_or, slice_range, refl, sym, ap, arith, add-one, drop-cons, ◌==◌, if◌then◌else◌}
 use Rattle.std.proofs.Math.Seq.{take-suc}
 use Rattle.std.proofs.lemmas.List.{get_or-drop, length-drop}
 use Rattle.plain_form.specs.Pieces.{cut}

@@ -1,4 +1,4 @@
-use Rattle.std.proofs.Common.{rules, arith, ◌≡◌, ◌∙◌, ◌-◌, ◌++◌, ◌∷◌, [], ℕ, suc, false, true, Ok, Err, List, map, subst, inl, sym, ap, refl, Option}
+use Rattle.std.proofs.Common.{rules, arith, ◌≡◌, ◌∙◌, ◌-◌, ℕ, suc, true, Ok, Err, List, map, subst, inl, sym, ap, refl}
 use Rattle.bits_core.specs.declared.names.File.{File}
 use Rattle.vl_tree.specs.declared.faults.Code.TheVariants as code
 use Rattle.vl_tree.specs.declared.faults.Stop.TheVariants as stop
@@ -6,10 +6,10 @@ use Rattle.vl_tree.specs.declared.tokens.Token.{Token}
 use Rattle.vl_lex.specs.declared.gate.Halt.TheVariants as halt
 use Rattle.vl_lex.specs.Lexed.{view}
 use Rattle.vl_lex.specs.Walk.{kept}
-use Rattle.vl_lex.proofs.Rows.{is_text, no_text}
+use Rattle.conncheck.proofs.NeedLaws.{asked_is_text, is_text_ok, text_is}
 use Rattle.std.specs.Str.{is_utf8}
 use Rattle.conncheck.specs.Ends.{Ends, EndsFor}
-use Rattle.conncheck.specs.Outcome.{OfWalk, OfWords, first_of, limited, not_yet, refused}
+use Rattle.conncheck.specs.Outcome.{OfWalk, OfWords, limited, refused}
 use Rattle.conncheck.specs.Reads.{IsRead, ReadsOne}
 use Rattle.conncheck.specs.Texts.{place_text}
 use Rattle.conncheck.specs.Words.{seen_check}
@@ -68,20 +68,12 @@ returns-then-left-eq0-clause-answer g t c = laws.told (g.H.Shelf.tells c.args.sh
       ended = c.say_limit-then-left-eq0.ensures.printed;
     })
 
-pub returns-in_default-clause-answer : goal.returns-in_default-clause-answer
-returns-in_default-clause-answer g t c = laws.told (g.H.Shelf.tells c.args.shelf.now) _ (λ files e.
-    let k = seen_check c.args.command.now in
-    let name = c.in-Ok-Need.name in
-    let w : kept c.args.read.list c.args.read.named k.defines ≡ Err (halt.Need name) = rw c.in-Ok-Need.field-0-is at c.in-Ok-Need.ensures in
-    let P : ℕ → Type 0 = λ n. OfWalk n k c.args.table.now c.args.read.named c.args.read.list files (not_yet (first_of k.files)) in
-    let Q : List ℕ → Type 0 = λ x. Ends (not_yet x) (g.K.Sink.taken c.args.out.now) (g.K.Sink.taken c.say_not_yet.new.out) c.say_not_yet.result in
-    let one : suc (c.args.left - 1) ≡ c.args.left = omega arith in
-    let text : is_utf8 name ≡ false = ap is_utf8 (sym c.as_slice-2.ensures) ∙ no_text c.as_slice-2.result.now c.in_default.ensures.cases.0 in
-    record {
-      outcome = not_yet (first_of k.files);
-      allowed = inl (subst P one (walk.at_no_text k c.args.table.now c.args.read.named (c.args.left - 1) c.args.read.list files name w text));
-      ended = subst Q c.first_of.ensures c.say_not_yet.ensures.printed;
-    })
+pub unwrap-text-requires : goal.unwrap-text-requires
+unwrap-text-requires g t c =
+    let w : kept c.args.read.list c.args.read.named (seen_check c.args.command.now).defines ≡ Err (halt.Need c.in-Ok-Need.name) = rw c.in-Ok-Need.field-0-is at c.in-Ok-Need.ensures in
+    let text : is_utf8 c.as_slice-2.result.now ≡ true =
+    ap is_utf8 c.as_slice-2.ensures ∙ asked_is_text c.args.read.list c.args.read.named (seen_check c.args.command.now).defines c.in-Ok-Need.name w in
+    is_text_ok _ c.as_slice-2.result.now c.from_utf8.result c.from_utf8.ensures.cases text
 
 pub returns-in-Err-clause-answer : goal.returns-in-Err-clause-answer
 returns-in-Err-clause-answer g t c = laws.told (g.H.Shelf.tells c.args.shelf.now) _ (λ files e.
@@ -90,18 +82,18 @@ returns-in-Err-clause-answer g t c = laws.told (g.H.Shelf.tells c.args.shelf.now
     let steady = g.H.Shelf.is_steady c.args.shelf.now in
     let w : kept c.args.read.list c.args.read.named k.defines ≡ Err (halt.Need name) = rw c.in-Ok-Need.field-0-is at c.in-Ok-Need.ensures in
     let one : suc (c.args.left - 1) ≡ c.args.left = omega arith in
-    let text : is_utf8 name ≡ true = ap is_utf8 (sym c.as_slice-2.ensures) ∙ is_text c.as_slice-2.result.now c.in-Ok.ensures.cases.1 in
-    let same : c.in-Ok.text.now ≡ name = c.in-Ok.ensures.cases.0 ∙ c.as_slice-2.ensures in
+    let got : c.from_utf8.result ≡ Ok c.unwrap-text.result = search rules in
+    let same : c.unwrap-text.result.now ≡ name = text_is _ c.as_slice-2.result.now c.from_utf8.result c.unwrap-text.result c.from_utf8.ensures.cases got ∙ c.as_slice-2.ensures in
     let P : ℕ → Type 0 = λ n. EndsFor steady (OfWalk n k c.args.table.now c.args.read.named c.args.read.list) files (g.K.Sink.taken c.args.out.now) (g.K.Sink.taken c.say_unread.new.out) c.say_unread.result in
     let Q : List ℕ → Type 0 = λ x. ReadsOne steady files x (Err c.in-Err.unread) in
     subst P one (walk.unread_on k c.args.table.now c.args.read.named steady steady (c.args.left - 1) c.args.read.list files name c.in-Err.unread (g.K.Sink.taken c.args.out.now) (g.K.Sink.taken c.say_unread.new.out) c.say_unread.result
-    (λ s. s) w text (subst Q same (laws.at_told _ _ files c.in-Err.ensures.files e)) c.say_unread.ensures.printed))
+    (λ s. s) w (subst Q same (laws.at_told _ _ files c.in-Err.ensures.files e)) c.say_unread.ensures.printed))
 
 pub returns-in-Ok-with_file-clause-answer : goal.returns-in-Ok-with_file-clause-answer
 returns-in-Ok-with_file-clause-answer g t c = laws.told (g.H.Shelf.tells c.args.shelf.now) _ (λ files e.
     let k = seen_check c.args.command.now in
     let name = c.in-Ok-Need.name in
-    let file = c.in-Ok-read_one.file in
+    let file = c.in-Ok.file in
     let more = c.in-Ok-with_file.more in
     let steady = g.H.Shelf.is_steady c.args.shelf.now in
     let after = g.H.Shelf.is_steady c.read_one.new.shelf in
@@ -109,15 +101,15 @@ returns-in-Ok-with_file-clause-answer g t c = laws.told (g.H.Shelf.tells c.args.
     let new = g.K.Sink.taken c.walk_from.new.out in
     let w : kept c.args.read.list c.args.read.named k.defines ≡ Err (halt.Need name) = rw c.in-Ok-Need.field-0-is at c.in-Ok-Need.ensures in
     let one : suc (c.args.left - 1) ≡ c.args.left = omega arith in
-    let text : is_utf8 name ≡ true = ap is_utf8 (sym c.as_slice-2.ensures) ∙ is_text c.as_slice-2.result.now c.in-Ok.ensures.cases.1 in
-    let same : c.in-Ok.text.now ≡ name = c.in-Ok.ensures.cases.0 ∙ c.as_slice-2.ensures in
+    let got : c.from_utf8.result ≡ Ok c.unwrap-text.result = search rules in
+    let same : c.unwrap-text.result.now ≡ name = text_is _ c.as_slice-2.result.now c.from_utf8.result c.unwrap-text.result c.from_utf8.ensures.cases got ∙ c.as_slice-2.ensures in
     let added = c.in-Ok-with_file.ensures {u = tt} in
     let rest = laws.at_told _ _ files c.walk_from.ensures.answer (c.read_one.ensures.kept ∙ e) in
     let P : ℕ → Type 0 = λ n. EndsFor steady (OfWalk n k c.args.table.now c.args.read.named c.args.read.list) files old new c.walk_from.result in
     let Q : List ℕ → Type 0 = λ x. IsRead files x file in
     let N : ℕ → Type 0 = λ n. EndsFor after (OfWalk (c.args.left - 1) k c.args.table.now n more.list) files old new c.walk_from.result in
     subst P one (walk.ends_on k c.args.table.now c.args.read.named steady after (c.args.left - 1) c.args.read.list more.list files name file old new c.walk_from.result
-    c.read_one.ensures.steady w text (subst Q same (laws.at_told _ _ files c.in-Ok-read_one.ensures.files e)) added.list (subst N added.named rest)))
+    c.read_one.ensures.steady w (subst Q same (laws.at_told _ _ files c.in-Ok.ensures.files e)) added.list (subst N added.named rest)))
 
 pub returns-clause-answer : goal.returns-clause-answer
 returns-clause-answer g t c = laws.told (g.H.Shelf.tells c.args.shelf.now) _ (λ files e.

@@ -1,11 +1,10 @@
-use Rattle.std.proofs.Common.{arith, ◌<◌, ◌≡◌, ◌∙◌, ◌++◌, ◌∷◌, [], ℕ, Ok, Err, List, length, map, string_bytes, subst, inl, inr, sym, ap, refl}
-use Rattle.bits_core.specs.declared.names.File.{File}
+use Rattle.std.proofs.Common.{arith, ◌<◌, ◌∙◌, ◌∷◌, [], ℕ, Err, List, length, subst, inl, refl}
 use Rattle.vl_tree.specs.declared.faults.Code.TheVariants as code
 use Rattle.vl_tree.specs.declared.faults.Stop.TheVariants as stop
 use Rattle.vl_lex.specs.declared.gate.Halt.TheVariants as halt
 use Rattle.conncheck.specs.Ends.{EndsFor}
 use Rattle.conncheck.specs.Outcome.{OfCheck, OfWalk, limited, most_included}
-use Rattle.conncheck.specs.Reads.{AreRead, IsRead, ReadsOne, StopsAt}
+use Rattle.conncheck.specs.Reads.{AreRead, IsRead, StopsAt}
 use Rattle.conncheck.specs.Words.{seen_check}
 use Rattle.conncheck.proofs.AllowsLaws as laws
 use Rattle.conncheck.proofs.ReadLaws as reads

@@ -1,6 +1,6 @@
 use Rattle.std.proofs.Common.{rules, ◌≡◌, ◌∙◌, ◌+◌, ◌++◌, ◌∷◌, [], Err, map, string_bytes, take, drop, get_or, ap, sym, subst, List, ℕ}
 use Rattle.bits_core.specs.declared.names.File.{File}
-use Rattle.conncheck.specs.Reads.{AreRead, AreSmall, IsRead, Reaches, ReadsAll, ReadsOne}
+use Rattle.conncheck.specs.Reads.{AreRead, AreSmall, IsRead, Reaches, ReadsOne}
 use Rattle.conncheck.proofs.AllowsLaws as laws
 use Rattle.conncheck.proofs.ReadLaws as reads
 use Rattle.conncheck.proofs.reads.read_each.Goals as goal

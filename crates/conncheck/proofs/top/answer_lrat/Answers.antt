@@ -1,8 +1,7 @@
-use Rattle.std.proofs.Common.{◌≡◌, Some, subst, inl, map, string_bytes, List}
+use Rattle.std.proofs.Common.{Some, subst, inl, map, string_bytes, List}
 use Rattle.bits_core.specs.declared.names.File.{File}
 use Rattle.conncheck.specs.Command.{lrat}
 use Rattle.conncheck.specs.Outcome.{IsOutcome, OfLogs}
-use Rattle.conncheck.specs.Reads.{AreRead}
 use Rattle.conncheck.proofs.AllowsLaws as laws
 use Rattle.conncheck.proofs.LogLaws.{some_log}
 use Rattle.conncheck.proofs.ReadLaws as reads
