@@ -9,7 +9,7 @@ use Rattle.plain_rows.proofs.RowLaws.{verdict_right}
 use Rattle.plain_rows.proofs.SoundLaws.{AreIn, rows_in, source_even, source_sound}
 use Rattle.conncheck.specs.Command.{Text, Check}
 use Rattle.conncheck.specs.Judge.{judge}
-use Rattle.conncheck.specs.Outcome.{AreJudged, OfSource, OfTable, Outcome, not_yet, report}
+use Rattle.conncheck.specs.Outcome.{AreJudged, OfSource, OfTable, OfWords, Outcome, first_of, not_yet, report}
 use Rattle.conncheck.specs.Texts.{Judged}
 
 rows_same : (slots : List Slot) (rows : List Row) → map (λ (j : Judged). j.row) (map (judge slots) rows) ≡ rows
@@ -21,7 +21,7 @@ in_judged slots [] j h = absurd h
 in_judged slots (r ∷ rs) j (inl e) = (r, inl refl, e)
 in_judged slots (r ∷ rs) j (inr h) = let k = in_judged slots rs j h in (k.0, inr k.1, k.2)
 
-are_judged : (w : Wires) (top source table : Text) (rows : List Row) → source_of top source ≡ Some w → rows_of w.names top table ≡ Some rows
+are_judged : (w : Wires) (top : Text) (source : List Text) (table : Text) (rows : List Row) → source_of top source ≡ Some w → rows_of w.names top table ≡ Some rows
     → AreJudged w rows (map (judge w.slots) rows)
 are_judged w top source table rows s t = record {
   same_rows = rows_same w.slots rows;
@@ -33,32 +33,32 @@ are_judged w top source table rows s t = record {
       subst Q (sym k.2) (verdict_right w.slots k.0 (source_sound top source w s) inside.0 inside.1);
 }
 
-module _ (c : Check) (table source : Text) where
-  pub not_source : source_of c.top source ≡ None → OfSource c table (source_of c.top source) (not_yet c.file)
-  not_source e = let P : Option Wires → Type 0 = λ o. OfSource c table o (not_yet c.file) in subst P (sym e) refl
+module _ (c : Check) (table : Text) (source : List Text) where
+  pub not_source : source_of c.top source ≡ None → OfWords c table source (not_yet (first_of c.files))
+  not_source e = let P : Option Wires → Type 0 = λ o. OfSource c table o (not_yet (first_of c.files)) in subst P (sym e) refl
 
-  pub not_table : (w : Wires) → source_of c.top source ≡ Some w → rows_of w.names c.top table ≡ None → OfSource c table (source_of c.top source) (not_yet c.table)
+  pub not_table : (w : Wires) → source_of c.top source ≡ Some w → rows_of w.names c.top table ≡ None → OfWords c table source (not_yet c.table)
   not_table w e t =
       let P : Option Wires → Type 0 = λ o. OfSource c table o (not_yet c.table) in
       let Q : Option (List Row) → Type 0 = λ o. OfTable c w o (not_yet c.table) in
       subst P (sym e) (subst Q (sym t) refl)
 
   pub of_report : (w : Wires) (rows : List Row) → source_of c.top source ≡ Some w → rows_of w.names c.top table ≡ Some rows
-      → OfSource c table (source_of c.top source) (report c.top w.names (map (judge w.slots) rows))
+      → OfWords c table source (report c.top w.names (map (judge w.slots) rows))
   of_report w rows e t =
       let o = report c.top w.names (map (judge w.slots) rows) in
       let P : Option Wires → Type 0 = λ s. OfSource c table s o in
       let Q : Option (List Row) → Type 0 = λ r. OfTable c w r o in
       subst P (sym e) (subst Q (sym t) (record { judged = map (judge w.slots) rows; are_judged = are_judged w c.top source table rows e t; is_report = refl }))
 
-  by_table : (w : Wires) (o : Option (List Row)) → source_of c.top source ≡ Some w → rows_of w.names c.top table ≡ o → (x : Outcome) × OfSource c table (source_of c.top source) x
+  by_table : (w : Wires) (o : Option (List Row)) → source_of c.top source ≡ Some w → rows_of w.names c.top table ≡ o → (x : Outcome) × OfWords c table source x
   by_table w None e t = (not_yet c.table, not_table w e t)
   by_table w (Some rows) e t = (report c.top w.names (map (judge w.slots) rows), of_report w rows e t)
 
-  by_source : (o : Option Wires) → source_of c.top source ≡ o → (x : Outcome) × OfSource c table (source_of c.top source) x
-  by_source None e = (not_yet c.file, not_source e)
+  by_source : (o : Option Wires) → source_of c.top source ≡ o → (x : Outcome) × OfWords c table source x
+  by_source None e = (not_yet (first_of c.files), not_source e)
   by_source (Some w) e = by_table w (rows_of w.names c.top table) e refl
 
   -- there is always an outcome
-  pub some_outcome : (x : Outcome) × OfSource c table (source_of c.top source) x
+  pub some_outcome : (x : Outcome) × OfWords c table source x
   some_outcome = by_source (source_of c.top source) refl

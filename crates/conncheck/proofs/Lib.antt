@@ -4,3 +4,6 @@ pub mod JudgeLaws
 pub mod AllowsLaws
 pub mod ReadLaws
 pub mod LogLaws
+pub mod WalkLaws
+pub mod WordLaws
+pub mod NeedLaws

@@ -1,5 +1,5 @@
 -- There is always an answer for a log.
-use Rattle.std.proofs.Common.{◌≡◌, ℕ, suc, List, [], ◌∷◌, length, refl}
+use Rattle.std.proofs.Common.{ℕ, suc, List, [], ◌∷◌, length, refl}
 use Rattle.bits_core.specs.declared.names.File.{File}
 use Rattle.cnf_core.specs.Text.{text_lines}
 use Rattle.log_verdict.specs.Answer.{IsJudged, answer_of, proof_line, next_line}

@@ -1,15 +1,14 @@
 -- The outcome by the files that were read.
-use Rattle.std.proofs.Common.{rules, subst, ◌≡◌, ◌≤◌, ◌∙◌, ◌++◌, ℕ, Bool, true, false, List, [], ◌∷◌, length, Option, Some, None, Result, Ok, Err, refl, sym, ap, inl, inr, if◌then◌else◌, ◌<◌, ◌+◌, map, take, drop, get_or, add-one, drop-cons}
+use Rattle.std.proofs.Common.{rules, arith, subst, zero, suc, ◌^◌, ◌≡◌, ◌≤◌, ◌∙◌, ◌++◌, ℕ, Bool, true, false, List, [], ◌∷◌, length, Option, Some, None, Result, Err, refl, sym, ap, inl, inr, if◌then◌else◌, ◌<◌, ◌+◌, map, take, drop, get_or, add-one, drop-cons}
 use Rattle.std.proofs.lemmas.List.{map-append, take-append-drop, take_more}
 use Rattle.std.specs.Str.{bytes_eq}
 use Rattle.bits_core.specs.declared.names.File.{File}
 use Rattle.shelf_io.specs.Files.{Files}
-use Rattle.shelf_io.specs.Shelf.{IsLonger}
 use Rattle.conncheck.specs.Answers.{Allows, without}
-use Rattle.conncheck.specs.Command.{Text, Command}
+use Rattle.conncheck.specs.Command.{Text}
 use Rattle.conncheck.specs.Ends.{Ends, EndsFor}
-use Rattle.conncheck.specs.Outcome.{IsOutcome, OfFile, OfFiles, Outcome, missing, most, too_long}
-use Rattle.conncheck.specs.Reads.{AreRead, IsRead, MeetsLonger, Reaches, ReadsOne, StopsAt, UnreadEnds}
+use Rattle.conncheck.specs.Outcome.{OfFiles, Outcome, missing, too_long}
+use Rattle.conncheck.specs.Reads.{AreRead, AreSmall, IsRead, MeetsLonger, Reaches, ReadsOne, StopsAt, UnreadEnds}
 use Rattle.conncheck.specs.declared.reads.Unread.{Unread}
 use Rattle.conncheck.specs.declared.reads.Unread.TheVariants.{Missing, TooLong, NoMemory}
 use Rattle.conncheck.specs.declared.status.Status.{Status}
@@ -51,7 +50,7 @@ stops_at steady before_it files names n (Missing m) still r one =
 stops_at steady before_it files names n TooLong still r one = record { name = n; reaches = r; longer = one }
 stops_at steady before_it files names n NoMemory still r one = tt
 
-same_file : (n : Text) (f : File) → f.name ≡ n → record { name = n; bytes = f.bytes } ≡ f
+pub same_file : (n : Text) (f : File) → f.name ≡ n → record { name = n; bytes = f.bytes } ≡ f
 same_file n f e = ap (λ m. record { name = m; bytes = f.bytes }) (sym e)
 
 module _ (Next : List File → Outcome → Type 0) where
@@ -101,12 +100,43 @@ any_files Next files (n ∷ ns) h =
     any_file n (λ bytes. OfFiles ns files (λ more. Next (record { name = n; bytes = bytes } ∷ more))) (files n)
     (λ bytes. any_files (λ more. Next (record { name = n; bytes = bytes } ∷ more)) files ns (λ more. h (record { name = n; bytes = bytes } ∷ more)))
 
-module _ (command : Option Command) (names : List Text) (Next : Files → List File → Outcome → Type 0)
-    (by_reads : (files : Files) (o : Outcome) → OfFiles names files (Next files) o → IsOutcome command files o) where
-  missing_at : (steady : Type 0) (files : Files) (n : Text) → Reaches files names n → (steady → files n ≡ None) → Allows steady command files (missing n)
+-- the same where the files behind a name come to what is missing
+pub hidden_behind : (Next : List File → Outcome → Type 0) (files : Files) (ns : List Text) (n : Text) (fs : List File)
+    → AreRead files ns fs → Next fs (missing n) → OfFiles ns (without n files) Next (missing n)
+hidden_behind Next files [] n [] all h = h
+hidden_behind Next files [] n (f ∷ fs) all h = absurd all
+hidden_behind Next files (m ∷ ns) n [] all h = absurd all
+hidden_behind Next files (m ∷ ns) n (f ∷ fs) all h =
+    hides Next files ns m n f all.0 (hidden_behind (λ more. Next (f ∷ more)) files ns n fs all.1 h) (bytes_eq m n) refl
+
+-- files behind one that was read
+pub stops_behind : (steady before_it : Type 0) (files : Files) (name : Text) (f : File) (names : List Text) (u : Unread) → (steady → before_it) → IsRead files name f
+    → StopsAt before_it files names u → StopsAt steady files (name ∷ names) u
+stops_behind steady before_it files name f names (Missing n) still one s =
+    let r = s.0 in
+    (record { front = name ∷ r.front; back = r.back; parts = ap (λ (ns : List Text). name ∷ ns) r.parts; before = f ∷ r.before; are_read = (one, r.are_read) }, λ h. s.1 (still h))
+stops_behind steady before_it files name f names TooLong still one s =
+    let r = s.reaches in
+    record {
+      name = s.name;
+      reaches = record { front = name ∷ r.front; back = r.back; parts = ap (λ (ns : List Text). name ∷ ns) r.parts; before = f ∷ r.before; are_read = (one, r.are_read) };
+      longer = s.longer;
+    }
+stops_behind steady before_it files name f names NoMemory still one s = tt
+
+-- one short file more
+pub small_more : (fs : List File) (f : File) → AreSmall fs → length f.bytes ≤ 2 ^ 24 → AreSmall (fs ++ f ∷ [])
+small_more [] f small one zero other lt = one
+small_more [] f small one (suc at) other lt = absurd (omega arith)
+small_more (x ∷ fs) f small one zero other lt = small 0 other (omega arith)
+small_more (x ∷ fs) f small one (suc at) other lt = small_more fs f (λ i o l. small (suc i) o (omega arith)) one at other (omega arith)
+
+module _ (names : List Text) (Of : Files → Outcome → Type 0) (Next : Files → List File → Outcome → Type 0)
+    (by_reads : (files : Files) (o : Outcome) → OfFiles names files (Next files) o → Of files o) where
+  missing_at : (steady : Type 0) (files : Files) (n : Text) → Reaches files names n → (steady → files n ≡ None) → Allows steady Of files (missing n)
   missing_at steady files n r gone = at (files n) refl
     where
-      at : (f : Option Text) → files n ≡ f → Allows steady command files (missing n)
+      at : (f : Option Text) → files n ≡ f → Allows steady Of files (missing n)
       at None e =
           let P : List Text → Type 0 = λ ns. OfFiles ns files (Next files) (missing n) in
           inl (by_reads files (missing n) (subst P r.parts (behind (Next files) files r.front (n ∷ r.back) r.before (missing n) r.are_read
@@ -115,7 +145,7 @@ module _ (command : Option Command) (names : List Text) (Next : Files → List F
           let P : List Text → Type 0 = λ ns. OfFiles ns (without n files) (Next (without n files)) (missing n) in
           inr ((λ s. cc (sym e ∙ gone s)), record { name = n; is = refl; as_if_absent = by_reads (without n files) (missing n) (subst P r.parts (hidden (Next (without n files)) files r.front r.back n r.before r.are_read)) })
 
-  long_at : (files : Files) → MeetsLonger files names → IsOutcome command files too_long
+  long_at : (files : Files) → MeetsLonger files names → Of files too_long
   long_at files m =
       let r = m.reaches in
       let P : List Text → Type 0 = λ ns. OfFiles ns files (Next files) too_long in
@@ -124,7 +154,7 @@ module _ (command : Option Command) (names : List Text) (Next : Files → List F
 
   -- the call ends where not all files are read
   pub unread_ends : (steady : Type 0) (files : Files) (u : Unread) (old new : Option Text) (r : Result Status Stop)
-      → ((fs : List File) → (x : Outcome) × Next files fs x) → StopsAt steady files names u → UnreadEnds u old new r → EndsFor steady command files old new r
+      → ((fs : List File) → (x : Outcome) × Next files fs x) → StopsAt steady files names u → UnreadEnds u old new r → EndsFor steady Of files old new r
   unread_ends steady files (Missing n) old new r any s e = record { outcome = missing n.now; allowed = missing_at steady files n.now s.0 s.1; ended = e }
   unread_ends steady files TooLong old new r any s e = record { outcome = too_long; allowed = inl (long_at files s); ended = e }
   unread_ends steady files NoMemory old new r any s e =

@@ -27,16 +27,16 @@ abbrev pub without : Text → Files → Files
 without name files = λ n. if bytes_eq n name then None else files n
 
 -- a read of this name failed: the outcome is one of the files without it, and there it is that this name is missing
-pub record FailsAt (command : Option Command) (files : Files) (o : Outcome) : Type 0 where
+pub record FailsAt (Of : Files → Outcome → Type 0) (files : Files) (o : Outcome) : Type 0 where
   pub name : Text
   pub is : o ≡ missing name
-  pub as_if_absent : IsOutcome command (without name files) o
+  pub as_if_absent : Of (without name files) o
 
 -- an outcome for these files, or, where the shelf is not steady, a read that failed
-abbrev pub Allows : Type 0 → Option Command → Files → Outcome → Type 0
-Allows steady command files o = IsOutcome command files o ⊎ ((steady → ⊥) × FailsAt command files o)
+abbrev pub Allows : Type 0 → (Files → Outcome → Type 0) → Files → Outcome → Type 0
+Allows steady Of files o = Of files o ⊎ ((steady → ⊥) × FailsAt Of files o)
 
 pub record Answers (steady : Type 0) (command : Option Command) (files : Files) (old new : Option Text) (s : Status) : Type 0 where
   pub outcome : Outcome
-  pub allowed : Allows steady command files outcome
+  pub allowed : Allows steady (IsOutcome command) files outcome
   pub printed : Prints outcome old new s

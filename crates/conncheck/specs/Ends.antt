@@ -56,7 +56,7 @@ IsOfBytes (Ok ReadFault) = ⊥
 IsOfBytes _ = ⊤
 
 -- the same with an outcome that the files allow
-pub record EndsFor (steady : Type 0) (command : Option Command) (files : Files) (old new : Option Text) (r : Result Status Stop) : Type 0 where
+pub record EndsFor (steady : Type 0) (Of : Files → Outcome → Type 0) (files : Files) (old new : Option Text) (r : Result Status Stop) : Type 0 where
   pub outcome : Outcome
-  pub allowed : Allows steady command files outcome
+  pub allowed : Allows steady Of files outcome
   pub ended : Ends outcome old new r

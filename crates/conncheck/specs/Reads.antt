@@ -1,12 +1,12 @@
 -- What the reads of files answer.
-use Rattle.std.specs.Prelude.{ℕ, ◌≡◌, ◌≤◌, List, [], ◌∷◌, ◌++◌, length, Option, Some, None, Result, Ok, Err, ⊤}
+use Rattle.std.specs.Prelude.{ℕ, ◌≡◌, ◌≤◌, ◌<◌, ◌^◌, slice_index_or, List, [], ◌∷◌, ◌++◌, length, Option, Some, None, Result, Ok, Err, ⊤}
 use Rattle.bits_core.specs.declared.names.File.{File}
 use Rattle.shelf_io.specs.Cause.{Rose}
 use Rattle.shelf_io.specs.Files.{Files}
 use Rattle.shelf_io.specs.Shelf.{IsLonger}
 use Rattle.conncheck.specs.Command.{Text}
 use Rattle.conncheck.specs.Ends.{Ends}
-use Rattle.conncheck.specs.Outcome.{Outcome, missing, most, too_long}
+use Rattle.conncheck.specs.Outcome.{missing, most, too_long}
 use Rattle.conncheck.specs.declared.reads.Unread.{Unread}
 use Rattle.conncheck.specs.declared.reads.Unread.TheVariants.{Missing, TooLong, NoMemory}
 use Rattle.conncheck.specs.declared.status.Status.{Status}
@@ -24,6 +24,10 @@ abbrev pub AreRead : Files → List Text → List File → Type 0
 AreRead files [] [] = ⊤
 AreRead files (n ∷ ns) (f ∷ fs) = IsRead files n f × AreRead files ns fs
 AreRead files _ _ = ⊥
+
+-- each file is short enough for a walk
+abbrev pub AreSmall : List File → Type 0
+AreSmall fs = (at : ℕ) (other : File) → at < length fs → length (slice_index_or fs at other).bytes ≤ 2 ^ 24
 
 -- the files before this name were read
 pub record Reaches (files : Files) (names : List Text) (name : Text) : Type 0 where

@@ -1,11 +1,22 @@
 -- The printed texts, each of whole lines.
-use Rattle.std.specs.Prelude.{List, [], ◌++◌, ℕ, Bool, true, false, not, codes, decimal, length, count_by, flat_map, slice_index_or}
+use Rattle.std.specs.Prelude.{List, [], ◌++◌, ℕ, Option, Some, None, slice_get, Bool, true, false, not, codes, decimal, length, count_by, flat_map, slice_index_or}
+use Rattle.bits_core.specs.declared.names.File.{File}
 use Rattle.design_core.specs.declared.place.BitRef.{BitRef}
+use Rattle.vl_tree.specs.Codes.{number, name}
+use Rattle.vl_tree.specs.declared.faults.Code.{Code}
+use Rattle.vl_tree.specs.declared.faults.Code.TheVariants as code
+use Rattle.vl_tree.specs.declared.faults.Place.{Place}
+use Rattle.vl_tree.specs.declared.faults.Place.TheVariants as place
 use Rattle.plain_form.specs.Table.{Row}
 use Rattle.plain_rows.specs.Verdicts.{Verdict, proved, refuted}
 use Rattle.log_verdict.specs.declared.judge.LogAnswer.{LogAnswer}
 use Rattle.log_verdict.specs.declared.judge.LogAnswer.TheVariants as log
 use Rattle.conncheck.specs.Command.{Text}
+
+-- the name of a file by its place
+abbrev pub name_at : Option File → Text
+name_at None = []
+name_at (Some f) = f.name
 
 abbrev pub line : Text → Text → Text
 line word rest = (word ++ rest) ++ codes "\n"
@@ -40,6 +51,31 @@ total_of n p r = (((((codes "TOTAL " ++ decimal n) ++ codes " proved ") ++ decim
 -- the numbers of rows, of proved ones and of refuted ones
 abbrev pub total_text : List Judged → Text
 total_text js = total_of (length js) (count_by was_proved js) (count_by (λ j. not (was_proved j)) js)
+
+-- the number that a limit sets
+abbrev pub limit_of : Code → ℕ
+limit_of code.FileBytes = 16777216
+limit_of code.Tokens = 4194304
+limit_of code.Scopes = 65536
+limit_of code.Weight = 4194304
+limit_of code.Rows = 10000
+limit_of code.Conditions = 32
+limit_of code.Latency = 64
+limit_of code.Candidates = 65536
+limit_of code.Files = 1024
+limit_of code.Ports = 65536
+limit_of _ = 0
+
+abbrev pub limit_text : Code → Text
+limit_text c = (((((codes "LIMIT " ++ number c) ++ codes " ") ++ name c) ++ codes " ") ++ decimal (limit_of c)) ++ codes "\n"
+
+-- a file's name and the line, or a path
+abbrev pub place_text : List File → Place → Text
+place_text files (place.Line file at) = (name_at (slice_get files file) ++ codes " ") ++ decimal at
+place_text files (place.Path path) = path
+
+abbrev pub refused_text : Code → Text → Text
+refused_text c at = (((((codes "REFUSED " ++ number c) ++ codes " ") ++ name c) ++ codes "\nAT ") ++ at) ++ codes "\n"
 
 -- what a log comes to; a step is named by its number from 1
 abbrev pub log_text : LogAnswer → Text

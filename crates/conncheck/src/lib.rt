@@ -1,6 +1,7 @@
 //! The top call: what the program does with the words of its command line, a shelf of files and a sink.
 #![tactic(auto)]
 
+mod check;
 mod reads;
 mod report;
 mod status;

@@ -1,6 +1,6 @@
 // Files of a shelf, one after the other.
-ghost use Rattle.std.specs.Prelude.{◌≡◌, IfOk, IfSome, map, string_bytes};
-ghost use Rattle.conncheck.specs.Reads.{ReadsAll, ReadsCause, ReadsOne};
+ghost use Rattle.std.specs.Prelude.{◌≡◌, ◌≤◌, ◌^◌, IfOk, IfSome, length, map, string_bytes};
+ghost use Rattle.conncheck.specs.Reads.{AreSmall, ReadsAll, ReadsCause, ReadsOne};
 
 use bits_core::{File, FileList, Items, NoMemory};
 use shelf_io::{Shelf, ShelfError};
@@ -56,6 +56,7 @@ pub fn read_one<'n, H: Shelf>(
     ensures kept { H.tells shelf.new ≡ H.tells shelf.old }
     ensures steady { H.is_steady shelf.old → H.is_steady shelf.new }
     ensures cause { ReadsCause (H.faults shelf.old) (H.faults shelf.new) result }
+    ensures small { IfOk result (λ f. length f.bytes ≤ 2 ^ 24) }
     ensures files { IfSome (H.tells shelf.old) (λ files. ReadsOne (H.is_steady shelf.old) files name.entry.now result) }
 {
     match shelf.read(alloc, name, MOST) {
@@ -75,6 +76,7 @@ pub fn read_each<'n, H: Shelf>(
     ensures cause { ReadsCause (H.faults shelf.old) (H.faults shelf.new) result }
     ensures kept { H.tells shelf.new ≡ H.tells shelf.old }
     ensures steady { H.is_steady shelf.old → H.is_steady shelf.new }
+    ensures small { IfOk result AreSmall }
     ensures files { IfSome (H.tells shelf.old) (λ files. ReadsAll (H.is_steady shelf.old) files (map string_bytes names.entry.now) result) }
 {
     let mut files = Items::new(alloc);

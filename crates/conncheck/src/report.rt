@@ -1,22 +1,24 @@
 // What is printed.
 ghost use Rattle.std.specs.Prelude.{map, ℕ};
 ghost use Rattle.conncheck.specs.Ends.{Adds, Ends, IsNoBadWords, IsOfBytes, PieceCause, ShelfCause, SinkCause};
-ghost use Rattle.conncheck.specs.Outcome.{bad_words, logged, missing, not_yet, report, too_long};
+ghost use Rattle.conncheck.specs.Outcome.{bad_words, limited, logged, missing, not_yet, refused, report, too_long};
 ghost use Rattle.conncheck.specs.Reads.{UnreadCause, UnreadEnds};
 ghost use Rattle.conncheck.specs.Judge.{judge};
-ghost use Rattle.conncheck.specs.Texts.{judged_text, total_of, verdict_text};
+ghost use Rattle.conncheck.specs.Texts.{judged_text, place_text, total_of, verdict_text};
 ghost use Rattle.plain_form.specs.Names.{listed};
 ghost use Rattle.plain_form.specs.SeenTable.{seen_row};
 ghost use Rattle.plain_rows.specs.Seen.{seen_verdict};
 
 use crate::reads::Unread;
 use crate::status::{Status, Stop};
-use crate::text::{line, log_text, row_text, total_text};
+use crate::text::{fault_text, limit_text, line, log_text, row_text, total_text};
+use bits_core::File;
 use log_verdict::LogAnswer;
 use plain_form::{Line, Names, Wires};
 use plain_rows::{Verdict, decide_row};
 use shelf_io::Sink;
 use std::alloc::Global;
+use vl_tree::{Code, Fault};
 
 pub fn say_bad_words<K: Sink>(out: &mut K) -> Result<Status, Stop>
     ensures printed { Ends bad_words (K.taken out.old) (K.taken out.new) result }
@@ -40,6 +42,33 @@ pub fn say_too_long<K: Sink>(out: &mut K) -> Result<Status, Stop>
     ensures cause { SinkCause (K.faults out.old) (K.faults out.new) result }
 {
     out.write_all(b"LIMIT L01 FileBytes 16777216\n")?;
+    Ok(Status::Limit)
+}
+
+/// A fault of the sources, at its place.
+pub fn say_fault<K: Sink>(
+    alloc: Global,
+    files: &[File],
+    fault: &Fault,
+    out: &mut K,
+) -> Result<Status, Stop>
+    ensures printed { Ends (refused fault.now.code (place_text files.now fault.now.place)) (K.taken out.old) (K.taken out.new) result }
+    ensures kind { IsOfBytes result }
+    ensures cause { SinkCause (K.faults out.old) (K.faults out.new) result }
+{
+    let text = fault_text(alloc, files, fault)?;
+    out.write_all(text.as_slice())?;
+    Ok(Status::Refused)
+}
+
+/// A limit that is passed.
+pub fn say_limit<K: Sink>(alloc: Global, code: Code, out: &mut K) -> Result<Status, Stop>
+    ensures printed { Ends (limited code) (K.taken out.old) (K.taken out.new) result }
+    ensures kind { IsOfBytes result }
+    ensures cause { SinkCause (K.faults out.old) (K.faults out.new) result }
+{
+    let text = limit_text(alloc, code)?;
+    out.write_all(text.as_slice())?;
     Ok(Status::Limit)
 }
 

@@ -260,3 +260,89 @@ fn logs_against_formulas(rt: HostRuntime) -> Result<(), Fail> {
     assert!(rt; taken.as_slice() == b"VERIFIED\n".as_slice());
     Ok(())
 }
+
+// Whether `check` with these words before the source ends so.
+fn ends_with(
+    alloc: Global,
+    line: &[&str],
+    source: &[u8],
+    want: Status,
+    text: &[u8],
+) -> Result<bool, NoMemory> {
+    let (status, taken) = call(alloc, line, ROW, source, None)?;
+    Ok(status == want && taken.as_slice() == text)
+}
+
+#[test]
+fn directives_of_a_source(rt: HostRuntime) -> Result<(), Fail> {
+    let alloc = rt.alloc();
+    let refuted =
+        b"REFUTED c1 launch 0\n  input 0 m.a 1\nTOTAL 1 proved 0 refuted 1 open 0 spent 0 large 0\n".as_slice();
+    for (source, want, text) in [
+        (
+            b"`define V 1'b0\nmodule m(input a, output y); assign y = `V; /* 0 */ endmodule".as_slice(),
+            Status::Findings,
+            refuted,
+        ),
+        (
+            b"module m(input a, output y); assign y = `W; endmodule".as_slice(),
+            Status::Refused,
+            b"REFUSED E06 Directive\nAT m.v 1\n".as_slice(),
+        ),
+        (
+            b"module m(input a, output y); assign y = a; endmodule /*".as_slice(),
+            Status::Refused,
+            b"REFUSED E02 Unclosed\nAT m.v 1\n".as_slice(),
+        ),
+        (
+            b"module m(input a, output y);\nassign y = 1'bx; endmodule".as_slice(),
+            Status::Refused,
+            b"REFUSED E04 LeftOut\nAT m.v 2\n".as_slice(),
+        ),
+        (
+            b"`include \"d.vh\"\nmodule m(input a, output y); assign y = a; endmodule".as_slice(),
+            Status::ReadFault,
+            b"READFAULT d.vh\n".as_slice(),
+        ),
+        (
+            b"`include \"t.csv\"\nmodule m(input a, output y); assign y = a; endmodule".as_slice(),
+            Status::Refused,
+            b"REFUSED E00 NotYet\nAT m.v\n".as_slice(),
+        ),
+    ] {
+        let line = ["check", "--top", "m", "--table", "t.csv", "m.v"];
+        assert!(rt; ends_with(alloc, &line, source, want, text)?);
+    }
+    Ok(())
+}
+
+#[test]
+fn macros_and_more_files(rt: HostRuntime) -> Result<(), Fail> {
+    let alloc = rt.alloc();
+    let source =
+        b"`ifdef A_1\nmodule m(input a, output y); assign y = a; endmodule\n`endif".as_slice();
+    let source_is_empty = b"REFUSED E00 NotYet\nAT m.v\n".as_slice();
+    let bad = b"BADWORDS\n".as_slice();
+    let defined = [
+        "check", "--define", "B,A_1", "--top", "m", "--table", "t.csv", "m.v",
+    ];
+    assert!(rt; ends_with(alloc, &defined, source, Status::Done, PROVED)?);
+    let other = [
+        "check", "--top", "m", "--table", "t.csv", "--define", "A", "m.v",
+    ];
+    assert!(rt; ends_with(alloc, &other, source, Status::Refused, source_is_empty)?);
+    let part = [
+        "check", "--top", "m", "--table", "t.csv", "--define", "A,", "m.v",
+    ];
+    assert!(rt; ends_with(alloc, &part, source, Status::BadWords, bad)?);
+    let twice = [
+        "check", "--top", "m", "--top", "m", "--table", "t.csv", "m.v",
+    ];
+    assert!(rt; ends_with(alloc, &twice, MODULE, Status::BadWords, bad)?);
+    let two = ["check", "--top", "m", "--table", "t.csv", "m.v", "m.v"];
+    assert!(rt; ends_with(alloc, &two, MODULE, Status::Refused, source_is_empty)?);
+    let gone = ["check", "--top", "m", "--table", "t.csv", "m.v", "n.v"];
+    let missing = b"READFAULT n.v\n".as_slice();
+    assert!(rt; ends_with(alloc, &gone, MODULE, Status::ReadFault, missing)?);
+    Ok(())
+}

@@ -1,5 +1,5 @@
 // Texts of whole lines.
-ghost use Rattle.std.specs.Prelude.{◌≡◌, IfOk, decimal};
+ghost use Rattle.std.specs.Prelude.{◌≡◌, IfOk, decimal, slice_get};
 ghost use Rattle.conncheck.specs.Texts as spec;
 ghost use Rattle.design_core.specs.Core.{bit};
 ghost use Rattle.plain_form.specs.Names.{listed};
@@ -8,12 +8,13 @@ ghost use Rattle.plain_rows.specs.Plain.{ones};
 ghost use Rattle.plain_rows.specs.Seen.{seen_verdict};
 ghost use Rattle.plain_rows.specs.Verdicts.{refuted};
 
-use bits_core::NoMemory;
+use bits_core::{File, NoMemory};
 use itoa::Buffer;
 use log_verdict::LogAnswer;
 use plain_form::{Line, Names};
 use plain_rows::Verdict;
 use std::alloc::Global;
+use vl_tree::{Code, Fault, Place};
 
 // The one cycle of a plain design's windows and runs.
 const CYCLE: u32 = 0;
@@ -34,6 +35,80 @@ fn number_line(alloc: Global, word: &[u8], number: u64) -> Result<Vec<u8>, NoMem
 {
     let mut buffer = Buffer::new();
     line(alloc, word, buffer.format(number).as_bytes())
+}
+
+// The number that a limit sets.
+fn limit_of(code: Code) -> u64
+    ensures { result ≡ spec.limit_of code }
+{
+    match code {
+        Code::FileBytes => 16_777_216,
+        Code::Tokens => 4_194_304,
+        Code::Scopes => 65_536,
+        Code::Weight => 4_194_304,
+        Code::Rows => 10_000,
+        Code::Conditions => 32,
+        Code::Latency => 64,
+        Code::Candidates => 65_536,
+        Code::Files => 1_024,
+        Code::Ports => 65_536,
+        _ => 0,
+    }
+}
+
+/// A limit that is passed.
+pub fn limit_text(alloc: Global, code: Code) -> Result<Vec<u8>, NoMemory>
+    ensures { IfOk result (λ v. v.items ≡ spec.limit_text code) }
+{
+    let mut buffer = Buffer::new();
+    let mut made = Vec::from_slice(alloc, b"LIMIT ")?;
+    made.extend_from_slice(code.number())?;
+    made.extend_from_slice(b" ")?;
+    made.extend_from_slice(code.name())?;
+    made.extend_from_slice(b" ")?;
+    made.extend_from_slice(buffer.format(limit_of(code)).as_bytes())?;
+    made.extend_from_slice(b"\n")?;
+    Ok(made)
+}
+
+// The name of a file by its place.
+fn name_at(files: &[File], at: usize) -> &[u8]
+    ensures { result.now ≡ spec.name_at (slice_get files.now at) }
+{
+    match files.get(at) {
+        Some(file) => file.name.as_slice(),
+        None => b"",
+    }
+}
+
+fn place_text(alloc: Global, files: &[File], place: &Place) -> Result<Vec<u8>, NoMemory>
+    ensures { IfOk result (λ v. v.items ≡ spec.place_text files.now place.now) }
+{
+    match place {
+        Place::Line { file, line } => {
+            let mut buffer = Buffer::new();
+            let mut made = Vec::from_slice(alloc, name_at(files, *file as usize))?;
+            made.extend_from_slice(b" ")?;
+            made.extend_from_slice(buffer.format(*line).as_bytes())?;
+            Ok(made)
+        }
+        Place::Path(path) => Ok(Vec::from_slice(alloc, path.as_slice())?),
+    }
+}
+
+/// A fault and its place.
+pub fn fault_text(alloc: Global, files: &[File], fault: &Fault) -> Result<Vec<u8>, NoMemory>
+    ensures { IfOk result (λ v. v.items ≡ spec.refused_text fault.now.code (spec.place_text files.now fault.now.place)) }
+{
+    let place = place_text(alloc, files, &fault.place)?;
+    let mut made = Vec::from_slice(alloc, b"REFUSED ")?;
+    made.extend_from_slice(fault.code.number())?;
+    made.extend_from_slice(b" ")?;
+    made.extend_from_slice(fault.code.name())?;
+    made.extend_from_slice(b"\nAT ")?;
+    made.extend_from_slice(place.as_slice())?;
+    made.extend_from_slice(b"\n")?;
+    Ok(made)
 }
 
 /// What a log comes to.

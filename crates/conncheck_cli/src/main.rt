@@ -11,7 +11,8 @@ use std::alloc::Global;
 use std::process::ExitCode;
 use std::{env, io};
 
-const USAGE: &str = "usage: conncheck check --top M --table F FILE | conncheck lrat FORMULA [LOG]";
+const USAGE: &str =
+    "usage: conncheck check --top M --table F [--define LIST] FILE.. | conncheck lrat FORMULA [LOG]";
 
 // The words after the program's name; none where some of them are no text. `None` where memory is wanting.
 fn words_after_name(rt: &HostRuntime, alloc: Global) -> Option<Vec<String>> {

@@ -1,5 +1,5 @@
 -- Verified comes exactly where the log refutes the formula.
-use Rattle.std.proofs.Common.{◌≡◌, ◌∙◌, ℕ, suc, List, length, Result, Ok, Err, IfOk, true, refl, sym, ap}
+use Rattle.std.proofs.Common.{◌≡◌, ◌∙◌, ℕ, List, Result, Ok, Err, IfOk, true, refl, sym, ap}
 use Rattle.cnf_core.specs.declared.formula.Formula.{Formula}
 use Rattle.cnf_core.specs.declared.formula.Step.{Step}
 use Rattle.cnf_core.specs.declared.fault.TextFault.{TextFault}

@@ -1,9 +1,8 @@
 -- Going over a text byte by byte.
-use Rattle.std.proofs.Common.{rules, suc, ◌≡◌, ◌<◌, ◌≤◌, ◌+◌, ◌-◌, ◌++◌, ◌∙◌, ℕ, true, false, List, [], ◌∷◌, length, take, drop, get_or, slice_range, refl, sym, ap, ap₂, arith, add-one, drop-cons, ◌==◌, append_assoc, if◌then◌else◌}
+use Rattle.std.proofs.Common.{rules, suc, ◌≡◌, ◌<◌, ◌≤◌, ◌+◌, ◌-◌, ◌++◌, ◌∙◌, ℕ, true, false, List, [], ◌∷◌, length, take, drop, get_or, slice_range, refl, sym, ap, arith, add-one, drop-cons, ◌==◌, if◌then◌else◌}
 use Rattle.std.proofs.Math.Seq.{take-suc}
 use Rattle.std.proofs.lemmas.List.{get_or-drop, length-drop}
 use Rattle.plain_form.specs.Pieces.{cut}
-use Rattle.plain_form.specs.Words.{is_blank, is_part, one, words_after}
 
 pub at_byte : (xs : List ℕ) (i : ℕ) → i < length xs → drop i xs ≡ get_or xs i 0 ∷ drop (i + 1) xs
 at_byte xs i lt = rw (add-one, drop-cons xs i 0 lt) refl
@@ -38,40 +37,3 @@ cut_here at xs s i lt is =
     let held = slice_range xs s i in
     ap (cut at held) (at_byte xs i lt) ∙ ap (λ t. if t then held ∷ cut at [] (drop (i + 1) xs) else cut at (held ++ (get_or xs i 0 ∷ [])) (drop (i + 1) xs)) e
     ∙ ap (λ h. held ∷ cut at h (drop (i + 1) xs)) (sym (none xs (i + 1)))
-
--- a byte that belongs to the word before it
-pub word_grows : (xs : List ℕ) (s i : ℕ) → s ≤ i → i < length xs → is_part (get_or xs i 0) ≡ true
-    → words_after (slice_range xs s (i + 1)) (drop (i + 1) xs) ≡ words_after (slice_range xs s i) (drop i xs)
-word_grows xs s i le lt part =
-    let b = get_or xs i 0 in
-    let held = slice_range xs s i in
-    let bs = drop (i + 1) xs in
-    sym (ap (words_after held) (at_byte xs i lt)
-    ∙ ap (λ t. if t then words_after (held ++ (b ∷ [])) bs else (one held ++ ((if is_blank b then [] else (b ∷ []) ∷ []) ++ words_after [] bs))) part
-    ∙ ap (λ h. words_after h bs) (sym (longer xs s i le lt)))
-
--- a byte that ends the word before it
-pub word_ends : (xs : List ℕ) (s i : ℕ) → i < length xs → is_part (get_or xs i 0) ≡ false
-    → words_after (slice_range xs s i) (drop i xs)
-    ≡ one (slice_range xs s i) ++ ((if is_blank (get_or xs i 0) then [] else (get_or xs i 0 ∷ []) ∷ []) ++ words_after (slice_range xs (i + 1) (i + 1)) (drop (i + 1) xs))
-word_ends xs s i lt part =
-    let b = get_or xs i 0 in
-    let held = slice_range xs s i in
-    let bs = drop (i + 1) xs in
-    ap (words_after held) (at_byte xs i lt)
-    ∙ ap (λ t. if t then words_after (held ++ (b ∷ [])) bs else (one held ++ ((if is_blank b then [] else (b ∷ []) ∷ []) ++ words_after [] bs))) part
-    ∙ ap (λ h. one held ++ ((if is_blank b then [] else (b ∷ []) ∷ []) ++ words_after h bs)) (sym (none xs (i + 1)))
-
--- the same with what was found before
-pub after_single : (ws : List (List ℕ)) (new last : List (List ℕ)) (xs : List ℕ) (s i : ℕ) → i < length xs → is_part (get_or xs i 0) ≡ false → is_blank (get_or xs i 0) ≡ false
-    → new ≡ ws ++ one (slice_range xs s i) → last ≡ new ++ one (slice_range xs i (i + 1))
-    → last ++ words_after (slice_range xs (i + 1) (i + 1)) (drop (i + 1) xs) ≡ ws ++ words_after (slice_range xs s i) (drop i xs)
-after_single ws new last xs s i lt part blank is last_is =
-    let rest = words_after (slice_range xs (i + 1) (i + 1)) (drop (i + 1) xs) in
-    let held = one (slice_range xs s i) in
-    let b = get_or xs i 0 in
-    let own : one (slice_range xs i (i + 1)) ≡ (b ∷ []) ∷ [] = ap one (alone xs i lt) in
-    ap (λ (n : List (List ℕ)). n ++ rest) (last_is ∙ ap₂ (λ (n m : List (List ℕ)). n ++ m) is own)
-    ∙ append_assoc (ws ++ held) ((b ∷ []) ∷ []) rest ∙ append_assoc ws held (((b ∷ []) ∷ []) ++ rest)
-    ∙ ap (λ (n : List (List ℕ)). ws ++ n) (sym (word_ends xs s i lt part
-    ∙ ap (λ t. held ++ ((if t then [] else (b ∷ []) ∷ []) ++ rest)) blank))

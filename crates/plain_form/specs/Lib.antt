@@ -1,5 +1,4 @@
 pub mod Pieces
-pub mod Words
 pub mod Names
 pub mod Reserved
 pub mod Modules

@@ -3,7 +3,6 @@ use Rattle.std.specs.Prelude.{List, [], ◌∷◌, ◌++◌, ℕ, Bool, false, n
 use Rattle.std.specs.List.{list_any}
 use Rattle.std.specs.Str.{bytes_eq}
 use Rattle.plain_form.specs.Modules.{Text, Port, Right, wire, fixed, Assign, Module, module_of}
-use Rattle.plain_form.specs.Words.{words}
 use Rattle.plain_form.specs.declared.wires.Driver.{Driver}
 use Rattle.plain_form.specs.declared.wires.Driver.TheVariants as driver
 use Rattle.plain_form.specs.declared.wires.Slot.{Slot}
@@ -81,6 +80,6 @@ abbrev pub wires_in : Text → Option Module → Option Wires
 wires_in top None = None
 wires_in top (Some m) = wires_of top m
 
--- the wires of a plain source whose module has this name
-abbrev pub source_of : Text → Text → Option Wires
-source_of top text = wires_in top (module_of (words text))
+-- the wires of a plain source, given by the texts of its tokens, whose module has this name
+abbrev pub source_of : Text → List Text → Option Wires
+source_of top words = wires_in top (module_of words)

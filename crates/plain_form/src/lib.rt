@@ -2,7 +2,6 @@
 #![tactic(auto)]
 
 mod cut;
-mod lexical;
 mod modules;
 mod name_form;
 mod names;
@@ -11,7 +10,6 @@ mod table;
 mod wires;
 
 pub use cut::pieces;
-pub use lexical::words;
 pub use modules::{Assign, Module, Port, Right, read_module};
 pub use names::Names;
 pub use table::{Line, read_rows};

@@ -6,11 +6,11 @@ ghost use Rattle.plain_form.specs.Seen.{seen_port, seen_right, seen_assign, seen
 ghost use Rattle.plain_form.specs.SeenWires.{seen_wires};
 ghost use Rattle.plain_form.specs.Wires as spec;
 
-use crate::lexical::words;
 use crate::modules::{Assign, Module, Port, Right, read_module};
 use crate::names::Names;
 use bits_core::NoMemory;
 use std::alloc::Global;
+use vl_tree::Token;
 
 /// What gives a port its value: a port that nothing drives, by its place, or a constant.
 #[derive(Clone, Copy, Debug, PartialEq, Eq)]
@@ -155,16 +155,27 @@ pub fn read_wires<'f>(
     Ok(Some(wires))
 }
 
-/// The wires of a source, or none where it is not plain or its module has another name. Linear in the source.
+// The texts of tokens.
+fn texts<'f>(alloc: Global, tokens: &[Token<'f>]) -> Result<Vec<&'f [u8]>, NoMemory>
+    ensures { IfOk result (λ v. map (λ w. w.now) v.items ≡ map (λ t. t.text.now) tokens.now) }
+{
+    let mut texts = Vec::new(alloc);
+    for token in tokens {
+        texts.push(token.text)?;
+    }
+    Ok(texts)
+}
+
+/// The wires of a source by its tokens, or none where it is not plain or its module has another name. Linear in the source.
 pub fn read_source<'f>(
     alloc: Global,
     top: &[u8],
-    text: &'f [u8],
+    tokens: &[Token<'f>],
 ) -> Result<Option<Wires<'f>>, NoMemory>
-    ensures { IfOk result (λ r. option_map seen_wires r ≡ spec.source_of top.now text.entry.now) }
+    ensures { IfOk result (λ r. option_map seen_wires r ≡ spec.source_of top.now (map (λ t. t.text.now) tokens.now)) }
 {
-    let words = words(alloc, text)?;
-    match read_module(alloc, words.as_slice())? {
+    let texts = texts(alloc, tokens)?;
+    match read_module(alloc, texts.as_slice())? {
         Some(source) => read_wires(alloc, &source, top),
         None => Ok(None),
     }

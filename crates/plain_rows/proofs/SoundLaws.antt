@@ -7,7 +7,6 @@ use Rattle.std.specs.Str.{bytes_eq}
 use Rattle.plain_form.specs.Modules.{Text, Port as ModulePort, Assign, Module, Right, wire, fixed, module_of}
 use Rattle.plain_form.specs.Pieces.{pieces}
 use Rattle.plain_form.specs.Table as table
-use Rattle.plain_form.specs.Words.{words}
 use Rattle.design_core.specs.Cells.{In}
 use Rattle.plain_form.specs.Wires.{Wires, all_driven, all_ports, driven, driven_by, driver_of, input_at, is_an_input, is_open_output, output_at, place, put, slot_of, source_of, then_all, wires_in, wires_of, with_port}
 use Rattle.plain_form.specs.declared.wires.Driver.{Driver}
@@ -186,15 +185,15 @@ wires_sound top m v e =
 pub wires_even : (top : Text) (m : Module) (v : Wires) → wires_of top m ≡ Some v → length v.names ≡ length v.slots
 wires_even top m v e = (wires_good top m v e).even
 
-pub source_sound : (top text : Text) (v : Wires) → source_of top text ≡ Some v → IsSound v.slots
-source_sound top text v e = at (module_of (words text)) e
+pub source_sound : (top : Text) (text : List Text) (v : Wires) → source_of top text ≡ Some v → IsSound v.slots
+source_sound top text v e = at (module_of text) e
   where
     at : (o : Option Module) → wires_in top o ≡ Some v → IsSound v.slots
     at None q = cc
     at (Some m) q = wires_sound top m v q
 
-pub source_even : (top text : Text) (v : Wires) → source_of top text ≡ Some v → length v.names ≡ length v.slots
-source_even top text v e = at (module_of (words text)) e
+pub source_even : (top : Text) (text : List Text) (v : Wires) → source_of top text ≡ Some v → length v.names ≡ length v.slots
+source_even top text v e = at (module_of text) e
   where
     at : (o : Option Module) → wires_in top o ≡ Some v → length v.names ≡ length v.slots
     at None q = cc

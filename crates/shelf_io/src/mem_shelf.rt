@@ -1,5 +1,5 @@
 // Files in memory, with reads that fail by their number.
-ghost use Rattle.std.specs.Prelude.{◌≡◌, ◌+◌, ◌-◌, ◌^◌, min, Contains, Some, [], IfSome, option_map, refl};
+ghost use Rattle.std.specs.Prelude.{◌≡◌, ◌≤◌, ◌+◌, ◌-◌, ◌^◌, min, Contains, Some, [], IfOk, IfSome, length, option_map, refl};
 ghost use Rattle.shelf_io.specs.Cause.{Rose};
 ghost use Rattle.shelf_io.specs.Memory.{file_of};
 ghost use Rattle.shelf_io.specs.MemShelf.{shelf_files, shelf_failing, shelf_reads, shelf_faults};
@@ -70,6 +70,7 @@ impl Shelf for MemShelf {
     fn read(&mut self, alloc: Global, name: &str, most: usize) -> Result<Vec<u8>, ShelfError>
         ensures kept { Some (file_of self.new.files) ≡ Some (file_of self.old.files) }
         ensures cause { ReadCause self.old.faults self.new.faults result }
+        ensures few { IfOk result (λ b. length b.items ≤ most) }
         ensures bytes { ReadsFile (λ b. b.items) (file_of self.old.files name.now) most result }
         ensures steady { self.old.failing.items ≡ [] → self.new.failing.items ≡ [] }
         ensures absent { self.old.failing.items ≡ [] → AbsentIfFailed (file_of self.old.files name.now) result }

@@ -1,5 +1,5 @@
 // Files by name.
-ghost use Rattle.std.specs.Prelude.{◌≡◌, List, ℕ, Option, IfSome, IsSome};
+ghost use Rattle.std.specs.Prelude.{◌≡◌, ◌≤◌, List, ℕ, Option, IfOk, IfSome, IsSome, length};
 ghost use Rattle.shelf_io.specs.Files.{Files};
 ghost use Rattle.shelf_io.specs.Shelf.{ReadCause, ReadsFile, AbsentIfFailed};
 
@@ -49,6 +49,7 @@ pub trait Shelf {
     fn read(&mut self, alloc: Global, name: &str, most: usize) -> Result<Vec<u8>, ShelfError>
         ensures kept { tells self.new ≡ tells self.old }
         ensures cause { ReadCause (faults self.old) (faults self.new) result }
+        ensures few { IfOk result (λ b. length b.items ≤ most) }
         ensures bytes { IfSome (tells self.old) (λ files. ReadsFile (λ b. b.items) (files name.now) most result) }
         ensures steady { is_steady self.old → is_steady self.new }
         ensures absent { is_steady self.old → IfSome (tells self.old) (λ files. AbsentIfFailed (files name.now) result) };

@@ -1,8 +1,7 @@
-use Rattle.std.proofs.Common.{◌≡◌, Some, subst, inl, map, string_bytes, List}
+use Rattle.std.proofs.Common.{Some, subst, inl, map, string_bytes, List}
 use Rattle.bits_core.specs.declared.names.File.{File}
 use Rattle.conncheck.specs.Command.{lrat}
-use Rattle.conncheck.specs.Outcome.{OfLogs}
-use Rattle.conncheck.specs.Reads.{AreRead}
+use Rattle.conncheck.specs.Outcome.{IsOutcome, OfLogs}
 use Rattle.conncheck.proofs.AllowsLaws as laws
 use Rattle.conncheck.proofs.LogLaws.{some_log}
 use Rattle.conncheck.proofs.ReadLaws as reads
@@ -22,5 +21,5 @@ returns-in-Ok-clause-answer g c = laws.told (g.H.Shelf.tells c.args.shelf.now) _
 pub returns-in-Err-clause-answer : goal.returns-in-Err-clause-answer
 returns-in-Err-clause-answer g c = laws.told (g.H.Shelf.tells c.args.shelf.now) _ (λ files e.
     let names = map string_bytes c.args.names.now in
-    reads.unread_ends (Some (lrat names)) names (λ fs. OfLogs) (λ fs o h. h) (g.H.Shelf.is_steady c.args.shelf.now) files c.in-Err.unread
+    reads.unread_ends names (IsOutcome (Some (lrat names))) (λ fs. OfLogs) (λ fs o h. h) (g.H.Shelf.is_steady c.args.shelf.now) files c.in-Err.unread
     (g.K.Sink.taken c.args.out.now) (g.K.Sink.taken c.say_unread.new.out) c.say_unread.result some_log (laws.at_told _ _ files c.in-Err.ensures.files e) c.say_unread.ensures.printed)

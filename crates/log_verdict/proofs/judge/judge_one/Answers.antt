@@ -22,4 +22,4 @@ returns c =
     let front : text_lines c.as_slice.result.now ≡ upto proof_line lines = ap text_lines c.as_slice.ensures.value ∙ proof.front in
     let rest : text_lines c.as_slice-2.result.now ≡ upto next_line (past proof_line lines) = ap text_lines c.as_slice-2.ensures.value ∙ log.front ∙ ap (upto next_line) proof.behind in
     judged_same c.in_ok-proof.proof.lines (suc (length (upto proof_line lines))) (text_lines c.as_slice.result.now) (upto proof_line lines)
-        (text_lines c.as_slice-2.result.now) (upto next_line (past proof_line lines)) c.judge.result proof.lines front rest c.judge.ensures
+    (text_lines c.as_slice-2.result.now) (upto next_line (past proof_line lines)) c.judge.result proof.lines front rest c.judge.ensures
