@@ -1,8 +1,10 @@
+pub mod Absent
 pub mod Bare
 pub mod Based
 pub mod Bounds
 pub mod Counts
 pub mod Cuts
+pub mod Definite
 pub mod Expands
 pub mod Fitting
 pub mod Gates
