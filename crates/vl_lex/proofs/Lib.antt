@@ -2,6 +2,7 @@ pub mod Absent
 pub mod Bare
 pub mod Based
 pub mod Bounds
+pub mod Counted
 pub mod Counts
 pub mod Cuts
 pub mod Definite
@@ -21,5 +22,6 @@ pub mod Sources
 pub mod Tables
 pub mod Tops
 pub mod Turns
+pub mod Unbounded
 pub mod Values
 pub mod Walks

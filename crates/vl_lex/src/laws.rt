@@ -1,10 +1,13 @@
-ghost use Rattle.std.specs.Prelude.{◌≡◌, ℕ, ◌≤◌, Ok, Err, List, ◌++◌, length};
+ghost use Rattle.std.specs.Prelude.{◌≡◌, ℕ, Bool, ◌≤◌, Ok, Err, List, ◌++◌, length};
 ghost use Rattle.bits_core.specs.declared.names.File.{File};
 ghost use Rattle.vl_lex.specs.declared.gate.Halt.TheVariants as h;
 ghost use Rattle.vl_lex.specs.Bytes.{Text};
-ghost use Rattle.vl_lex.specs.Lexed.{Seen, Lexed, beginning, file_tokens};
+ghost use Rattle.vl_lex.specs.Lexed.{Seen, Placed, Lexed, beginning, file_tokens};
 ghost use Rattle.vl_lex.specs.Forms.{Cut};
-ghost use Rattle.vl_lex.specs.Walk.{kept};
+ghost use Rattle.vl_lex.specs.Walk.{SState, SBranches, Step, predefined, start, step, kept};
+ghost use Rattle.vl_lex.specs.Gate.{SGate};
+ghost use Rattle.vl_lex.specs.Macros.{Table, expanded};
+ghost use Rattle.vl_lex.specs.Expansion.{Covers, Expands, IsBounded};
 ghost use Rattle.vl_lex.specs.Shelves.{AsksNothing, IsAbsent};
 ghost use Rattle.vl_lex.specs.Places.{AreSlices, AreSlicesOf, InOrder, tokens_of};
 
@@ -42,4 +45,17 @@ pub fn kept_tokens_are_slices()
 /// A file that is asked for has a name that the files lack.
 pub fn asks_for_absent_files()
     ensures { (files : List File) (named : ℕ) (defines : List Text) (name : Text) → kept files named defines ≡ Err (h.Need name) → IsAbsent name files }
+{}
+
+/// Where the bound is no less than the number of macros, an expansion is the one that has no bound.
+#[tactic(auto, using(crate::proofs::Unbounded::reaches))]
+pub fn expands_without_bound()
+    ensures { (bound : ℕ) (table : Table) (names : List Text) (implicit : Bool) (body : List Seen) (gate : SGate) → Covers table names → length names ≤ bound → Expands implicit table body gate (expanded bound table implicit body gate) }
+{}
+
+/// The walk's own bound is so, from its start and from token to token.
+#[tactic(auto, using(crate::proofs::Counted::start_bounded, crate::proofs::Counted::step_bounded))]
+pub fn macros_are_counted()
+    ensures start { (defines listed : List Text) → IsBounded (predefined defines (start listed)) }
+    ensures step { (levels : ℕ) (files : List File) (branches : SBranches) (state : SState) (token : Placed) (behind : List Placed) (reached : Step) → IsBounded state → step levels files branches state token behind ≡ Ok reached → IsBounded reached.state }
 {}
