@@ -49,17 +49,17 @@ Of s_backquote text = marked 96 (begins is_letter is_name) text ≡ true
 Of s_tick text = (length text ≤ 1) ⊎ IsBasedNumber text
 Of s_other text = (is_one is_mark text ≡ true) ⊎ (is_operator text ≡ true)
 
-sort_letter : (b : ℕ) → is_letter b ≡ true → sort b ≡ s_letter
+pub sort_letter : (b : ℕ) → is_letter b ≡ true → sort b ≡ s_letter
 sort_letter b h = let e : is_space b ≡ false = grind (arith, nat_tests) in rw (e, h) refl
 
-sort_digit : (b : ℕ) → is_digit b ≡ true → sort b ≡ s_digit
+pub sort_digit : (b : ℕ) → is_digit b ≡ true → sort b ≡ s_digit
 sort_digit b h = let e : is_space b ≡ false = grind (arith, nat_tests) in let f : is_letter b ≡ false = grind (arith, nat_tests) in rw (e, f, h) refl
 
-sort_space : (b : ℕ) → is_space b ≡ true → sort b ≡ s_space
+pub sort_space : (b : ℕ) → is_space b ≡ true → sort b ≡ s_space
 sort_space b h = rw h refl
 
 -- a byte that begins no name, number, string, escaped name or directive
-sort_mark : (b : ℕ) → is_mark b ≡ true → (sort b ≡ s_slash) ⊎ ((sort b ≡ s_dollar) ⊎ ((sort b ≡ s_tick) ⊎ (sort b ≡ s_other)))
+pub sort_mark : (b : ℕ) → is_mark b ≡ true → (sort b ≡ s_slash) ⊎ ((sort b ≡ s_dollar) ⊎ ((sort b ≡ s_tick) ⊎ (sort b ≡ s_other)))
 sort_mark b h =
     let t1 = both (is_graphic b) (not (is_letter b) && (not (is_digit b) && (not (b == 34) && (not (b == 92) && not (b == 96))))) h in
     let t2 = both (not (is_letter b)) (not (is_digit b) && (not (b == 34) && (not (b == 92) && not (b == 96)))) t1.1 in
@@ -97,7 +97,7 @@ one_long : (q : ℕ → Bool) (text : Text) → is_one q text ≡ true → lengt
 one_long q (b ∷ []) h = omega arith
 one_long q _ h = absurd (cc)
 
-one_byte : (q : ℕ → Bool) (b : ℕ) (bs : Text) → is_one q (b ∷ bs) ≡ true → q b ≡ true
+pub one_byte : (q : ℕ → Bool) (b : ℕ) (bs : Text) → is_one q (b ∷ bs) ≡ true → q b ≡ true
 one_byte q b [] h = h
 one_byte q b (c ∷ cs) h = absurd (cc)
 
@@ -125,28 +125,28 @@ triple_sort b c d = on_if (λ z. z ≡ true → sort b ≡ s_other) (b == 60) _ 
     on_if (λ z. z ≡ true → sort b ≡ s_other) (b == 33) _ _ (λ h z. sort_at b s_other 33 h refl) (λ _.
     λ z. absurd (cc)))))
 
-operator_sort : (b : ℕ) (bs : Text) → is_operator (b ∷ bs) ≡ true → sort b ≡ s_other
+pub operator_sort : (b : ℕ) (bs : Text) → is_operator (b ∷ bs) ≡ true → sort b ≡ s_other
 operator_sort b [] h = absurd (cc)
 operator_sort b (c ∷ []) h = pair_sort b c h
 operator_sort b (c ∷ d ∷ []) h = triple_sort b c d h
 operator_sort b (c ∷ d ∷ e ∷ bs) h = absurd (cc)
 
-mark_at : (a b : ℕ) (form : Text → Bool) (bs : Text) → marked a form (b ∷ bs) ≡ true → b ≡ a
+pub mark_at : (a b : ℕ) (form : Text → Bool) (bs : Text) → marked a form (b ∷ bs) ≡ true → b ≡ a
 mark_at a b form bs h = is_number b a (both (b == a) (form bs) h).0
 
 -- a line comment or a block comment begins with a `/`
-line_at : (b : ℕ) (bs : Text) → is_line_comment (b ∷ bs) ≡ true → b ≡ 47
+pub line_at : (b : ℕ) (bs : Text) → is_line_comment (b ∷ bs) ≡ true → b ≡ 47
 line_at b [] h = absurd (cc)
 line_at b (c ∷ cs) h = is_number b 47 (both (b == 47) ((c == 47) && list_all other_than_newline cs) h).0
 
-join_at : (b : ℕ) (bs : Text) → is_join (b ∷ bs) ≡ true → b ≡ 92
+pub join_at : (b : ℕ) (bs : Text) → is_join (b ∷ bs) ≡ true → b ≡ 92
 join_at b [] h = absurd (cc)
 join_at b (c ∷ []) h = is_number b 92 (both (b == 92) (c == 10) h).0
 join_at b (c ∷ d ∷ []) h = is_number b 92 (both (b == 92) ((c == 13) && (d == 10)) h).0
 join_at b (c ∷ d ∷ e ∷ bs) h = absurd (cc)
 
 -- a based number begins with a digit or a `'`
-based_at : (b : ℕ) (bs : Text) → IsBasedNumber (b ∷ bs) → (is_digit b ≡ true) ⊎ (b ≡ 39)
+pub based_at : (b : ℕ) (bs : Text) → IsBasedNumber (b ∷ bs) → (is_digit b ≡ true) ⊎ (b ≡ 39)
 based_at b bs n = go n.size n.before n.mark (n.behind ++ n.digits) n.whole n.sized n.based
   where
     go : (size before mark tail : Text) → b ∷ bs ≡ size ++ (before ++ (mark ++ tail)) → IsSize size before → is_base_mark mark ≡ true → (is_digit b ≡ true) ⊎ (b ≡ 39)

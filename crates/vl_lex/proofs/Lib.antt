@@ -1,8 +1,11 @@
+pub mod Absent
 pub mod Bare
 pub mod Based
 pub mod Bounds
+pub mod Counted
 pub mod Counts
 pub mod Cuts
+pub mod Definite
 pub mod Expands
 pub mod Fitting
 pub mod Gates
@@ -19,5 +22,6 @@ pub mod Sources
 pub mod Tables
 pub mod Tops
 pub mod Turns
+pub mod Unbounded
 pub mod Values
 pub mod Walks

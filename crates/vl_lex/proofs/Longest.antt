@@ -145,7 +145,7 @@ closed_step n star b bs (Some m) f is c =
 closed_here : (n : ℕ) (star : Bool) (b : ℕ) (bs : Text) → (star && (b == 47)) ≡ true → Closed n star (b ∷ bs) (Some (n + 1))
 closed_here n star b bs h = let t = both star (b == 47) h in ([], bs, ap (λ z. z ∷ bs) (is_number b 47 t.1), refl, inr (refl, t.0), omega arith)
 
-split_comment : (n : ℕ) (star : Bool) (bs : Text) → Closed n star bs (comment_end n star bs)
+pub split_comment : (n : ℕ) (star : Bool) (bs : Text) → Closed n star bs (comment_end n star bs)
 split_comment n star [] = λ inner rest e h. let l = ap length e in omega (arith, length-append inner (42 ∷ 47 ∷ rest))
 split_comment n star (b ∷ bs) =
     on_if (Closed n star (b ∷ bs)) (star && (b == 47)) (Some (n + 1)) (comment_end (n + 1) (b == 42) bs)
@@ -202,7 +202,7 @@ split_quote n false (b ∷ bs) =
 -- behind a `/`
 
 -- a comment of the other kind begins otherwise
-line_second : (more : Text) → is_line_comment (47 ∷ more) ≡ true → first more ≡ 47
+pub line_second : (more : Text) → is_line_comment (47 ∷ more) ≡ true → first more ≡ 47
 line_second [] h = absurd (cc)
 line_second (y ∷ ys) h = is_number y 47 (both (y == 47) (list_all other_than_newline ys) h).0
 
@@ -240,7 +240,7 @@ line_right cs =
     fits more rest n e c (inr (inr b)) =
         let f = block_second more b in let g = first_of_front (47 ∷ cs) more rest e (there more 42 f (omega arith)) in absurd (omega arith)
 
-block_right : (cs : Text) (o : Option ℕ) → comment_end 0 false cs ≡ o → Closed 0 false cs o → IsRight (47 ∷ 42 ∷ cs) (closed_space o)
+pub block_right : (cs : Text) (o : Option ℕ) → comment_end 0 false cs ≡ o → Closed 0 false cs o → IsRight (47 ∷ 42 ∷ cs) (closed_space o)
 block_right cs None is c = inl (cs, refl, λ front rest e b. open_still front rest e b)
   where
     open_still : (front rest : Text) → 47 ∷ 42 ∷ cs ≡ front ++ rest → IsBlockComment front → ⊥
@@ -301,7 +301,7 @@ slash_right bs =
 
 -- behind a `"`
 
-quote_right : (bs : Text) → IsRight (34 ∷ bs) (quote_piece bs)
+pub quote_right : (bs : Text) → IsRight (34 ∷ bs) (quote_piece bs)
 unfolding quote_piece
 quote_right bs = go (quote_end 0 false bs) refl (split_quote 0 false bs)
   where
@@ -352,7 +352,7 @@ join_next (x ∷ []) h = inl (is_number x 10 h, refl)
 join_next (x ∷ y ∷ []) h = let t = both (x == 13) (y == 10) h in inr (is_number x 13 t.0, is_number y 10 t.1, refl)
 join_next (x ∷ y ∷ z ∷ zs) h = absurd (cc)
 
-run_first : (q : ℕ → Bool) (more : Text) → is_run q more ≡ true → (q (first more) ≡ true) × (0 < length more) × (list_all q more ≡ true)
+pub run_first : (q : ℕ → Bool) (more : Text) → is_run q more ≡ true → (q (first more) ≡ true) × (0 < length more) × (list_all q more ≡ true)
 run_first q [] h = absurd (cc)
 run_first q (x ∷ xs) h = ((both (q x) (list_all q xs) h).0, omega arith, h)
 
@@ -640,3 +640,31 @@ piece_right b bs =
     on_if (IsRight (b ∷ bs)) (is_letter b) (p.Token k.Name (1 + prefix_len is_name bs)) _ (λ h. let s : sort b ≡ s_letter = rw (w, h) refl in name_right b bs s h) (λ l.
     on_if (IsRight (b ∷ bs)) (is_digit b) (p.Token k.Number (number_len (b ∷ bs))) (mark_piece b bs) (λ h. let s : sort b ≡ s_digit = rw (w, l, h) refl in number_right b bs s h) (λ d.
     mark_right b bs w l d)))
+
+-- what begins and ends nowhere is no piece
+
+block_there : (cs front rest : Text) → 47 ∷ 42 ∷ cs ≡ front ++ rest → IsSpace front → IsBlockComment front
+block_there cs [] rest e (inl s) = absurd (cc)
+block_there cs (x ∷ []) rest e (inl s) = absurd (let f : x ≡ 47 = cc in let q : is_space 47 ≡ true = ap is_space (sym f) ∙ s in cc)
+block_there cs (x ∷ y ∷ ys) rest e (inl s) = absurd (cc)
+block_there cs [] rest e (inr (inl s)) = absurd (cc)
+block_there cs (x ∷ []) rest e (inr (inl s)) = absurd (cc)
+block_there cs (x ∷ y ∷ ys) rest e (inr (inl s)) =
+    let f : y ≡ 42 = cc in let t = both (x == 47) ((y == 47) && list_all other_than_newline ys) s in let u = both (y == 47) (list_all other_than_newline ys) t.1 in
+    absurd (let q : (42 == 47) ≡ true = ap (λ z. z == 47) (sym f) ∙ u.0 in cc)
+block_there cs front rest e (inr (inr b)) = b
+
+open_comment : (cs : Text) → ((front rest : Text) → 47 ∷ 42 ∷ cs ≡ front ++ rest → IsBlockComment front → ⊥) → (o : Option ℕ) → comment_end 0 false cs ≡ o → closed_space o ≡ p.Unclosed
+open_comment cs none None is = refl
+open_comment cs none (Some m) is =
+    let g = block_right cs (Some m) is (subst (Closed 0 false cs) is (split_comment 0 false cs)) in
+    absurd (none g.0 g.1 g.2 (block_there cs g.0 g.1 g.2 g.5))
+
+open_quote : (cs : Text) → ((front rest : Text) → 34 ∷ cs ≡ front ++ rest → IsString front → ⊥) → (o : Option ℕ) → IsRight (34 ∷ cs) (closed_quote o) → closed_quote o ≡ p.Unclosed
+open_quote cs none None g = refl
+open_quote cs none (Some m) g = absurd (none g.0 g.1 g.2 g.5)
+
+pub unended : (text : Text) → NeverEnds text → piece text ≡ p.Unclosed
+unfolding piece mark_piece slash_piece quote_piece
+unended text (inl n) = ap piece n.1 ∙ open_comment n.0 (λ front rest e b. n.2 front rest (n.1 ∙ e) b) (comment_end 0 false n.0) refl
+unended text (inr n) = ap piece n.1 ∙ open_quote n.0 (λ front rest e b. n.2 front rest (n.1 ∙ e) b) (quote_end 0 false n.0) (quote_right n.0)

@@ -60,7 +60,7 @@ in_place (cut_join {file} {here} {l} piece rest s g c) bytes a =
 in_place (cut_token {file} {here} {l} kind piece rest s g c) bytes a =
     let k = in_place c bytes (on_from here (past_token here piece) piece rest bytes refl refl a) in
     (((refl, slice_here file here kind piece rest bytes (token_long kind piece s) a), k.0), (omega arith, k.1))
-in_place (cut_bad h n) bytes a = (tt, tt)
+in_place (cut_bad h n o) bytes a = (tt, tt)
 in_place (cut_unclosed n) bytes a = (tt, tt)
 
 pub file_places : (file : ℕ) (text : Text) → Placed_well file text 0 (tokens_of (file_tokens file text).tokens)

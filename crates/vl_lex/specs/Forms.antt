@@ -125,7 +125,7 @@ pub data Fits : Text → Type 0 where
   fits_join : {text : Text} → is_join text ≡ true → Fits text
   fits_token : {text : Text} (kind : TokenKind) → IsToken kind text → Fits text
 
--- What fits at the front of a text is never longer than this.
+-- what fits at the front of a text is never longer than this
 abbrev pub Longest : Text → Text → Type 0
 Longest text piece = (front rest : Text) → text ≡ front ++ rest → Fits front → length front ≤ length piece
 
@@ -139,15 +139,19 @@ NeverEnds text =
     ((behind : Text) × (text ≡ 47 ∷ 42 ∷ behind) × ((front rest : Text) → text ≡ front ++ rest → IsBlockComment front → ⊥))
     ⊎ ((behind : Text) × (text ≡ 34 ∷ behind) × ((front rest : Text) → text ≡ front ++ rest → IsString front → ⊥))
 
+-- a piece is taken at the front of a text
+abbrev pub Taken : Text → Text → Type 0
+Taken text piece = Longest text piece × (NeverEnds text → ⊥)
+
 -- The bytes of a file from a place on are white space, comments and tokens one after the other, each the longest that fits,
 -- up to the end or to the first place where nothing fits, or where a comment or string does not end.
 pub data Cut : ℕ → Cursor → Text → Lexed → Type 0 where
   cut_end : {file : ℕ} {here : Cursor} → Cut file here [] nothing
-  cut_space : {file : ℕ} {here : Cursor} {l : Lexed} (piece rest : Text) → IsSpace piece → Longest (piece ++ rest) piece
+  cut_space : {file : ℕ} {here : Cursor} {l : Lexed} (piece rest : Text) → IsSpace piece → Taken (piece ++ rest) piece
       → Cut file (past_space here piece) rest l → Cut file here (piece ++ rest) l
-  cut_join : {file : ℕ} {here : Cursor} {l : Lexed} (piece rest : Text) → is_join piece ≡ true → Longest (piece ++ rest) piece
+  cut_join : {file : ℕ} {here : Cursor} {l : Lexed} (piece rest : Text) → is_join piece ≡ true → Taken (piece ++ rest) piece
       → Cut file (past_join here piece) rest l → Cut file here (piece ++ rest) l
-  cut_token : {file : ℕ} {here : Cursor} {l : Lexed} (kind : TokenKind) (piece rest : Text) → IsToken kind piece → Longest (piece ++ rest) piece
+  cut_token : {file : ℕ} {here : Cursor} {l : Lexed} (kind : TokenKind) (piece rest : Text) → IsToken kind piece → Taken (piece ++ rest) piece
       → Cut file (past_token here piece) rest l → Cut file here (piece ++ rest) (with_tokens (token_here file here kind piece ∷ []) l)
-  cut_bad : {file : ℕ} {here : Cursor} {text : Text} → 0 < length text → NothingFits text → Cut file here text (flawed (bad_byte file here))
+  cut_bad : {file : ℕ} {here : Cursor} {text : Text} → 0 < length text → NothingFits text → (NeverEnds text → ⊥) → Cut file here text (flawed (bad_byte file here))
   cut_unclosed : {file : ℕ} {here : Cursor} {text : Text} → NeverEnds text → Cut file here text (flawed (unclosed file here))

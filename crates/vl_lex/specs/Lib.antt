@@ -1,4 +1,5 @@
 pub mod Bytes
+pub mod Expansion
 pub mod Forms
 pub mod Gate
 pub mod Lexed

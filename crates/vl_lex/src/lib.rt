@@ -18,7 +18,8 @@ mod walk;
 
 pub use files::Files;
 pub use laws::{
-    cuts_into_longest, further_files_change_nothing, kept_tokens_are_slices, tokens_are_slices,
+    asks_for_absent_files, cuts_in_one_way, cuts_into_longest, expands_without_bound,
+    further_files_change_nothing, kept_tokens_are_slices, macros_are_counted, tokens_are_slices,
 };
 pub use lexer::lex;
 pub use preprocessor::{Walk, preprocess};
