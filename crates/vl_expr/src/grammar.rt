@@ -9,7 +9,7 @@ use bits_core::Items;
 use sqlite_items::Boxed;
 use std::alloc::Global;
 use vl_grammar::{Role, binds, is_unary, role_of};
-use vl_tree::{Expr, Select, Token, Word, next_word, same_word, word_of};
+use vl_tree::{Expr, ExprList, Select, Token, Word, next_word, same_word, word_of};
 
 #[derive(Clone, Copy)]
 pub struct Grammar<F> {
@@ -412,4 +412,30 @@ pub fn expr<'t, 'f>(
     } else {
         grammar.joined(tokens, least)
     }
+}
+
+/// One or more expressions with commas between, at the head of some tokens, and the tokens behind them: exactly what the reader of the grammar gives.
+/// Linear in what is read.
+pub fn read_list<'t, 'f>(alloc: Global, tokens: &'t [Token<'f>]) -> Read<'t, 'f, ExprList<'f>>
+    ensures { Gives (λ x. (x.0, x.1.now)) result (spec.list (spec.expr (suc (length tokens.now))) tokens.now) }
+{
+    let grammar = Grammar {
+        alloc,
+        depth: tokens.len() + 1,
+        expr,
+    };
+    grammar.list(tokens)
+}
+
+/// A select behind its opening bracket, at the head of some tokens, and the tokens behind its closing one: exactly what the reader of the grammar gives.
+/// Linear in what is read.
+pub fn read_select<'t, 'f>(alloc: Global, tokens: &'t [Token<'f>]) -> Read<'t, 'f, Select<'f>>
+    ensures { Gives (λ x. (x.0, x.1.now)) result (spec.select (spec.expr (suc (length tokens.now))) tokens.now) }
+{
+    let grammar = Grammar {
+        alloc,
+        depth: tokens.len() + 1,
+        expr,
+    };
+    grammar.select(tokens)
 }

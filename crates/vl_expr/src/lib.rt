@@ -9,4 +9,6 @@ mod tests;
 mod tokens;
 
 pub use errors::ReadError;
+pub use grammar::{read_list, read_select};
 pub use parse::{parse_expr, read_expr};
+pub use tokens::{Read, expect, next_role, peek, token};

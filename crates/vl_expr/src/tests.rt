@@ -1,4 +1,4 @@
-use crate::{parse_expr, read_expr};
+use crate::{parse_expr, read_expr, read_list, read_select};
 use bits_core::{Items, NoMemory};
 use std::alloc::Global;
 use std::mem;
@@ -329,6 +329,28 @@ fn left_of(alloc: Global, text: &str) -> Option<usize> {
     }
 }
 
+/// How many expressions a list has, and how many tokens are left behind it.
+fn listed(alloc: Global, text: &str) -> Option<(usize, usize)> {
+    match tokens_of(alloc, text) {
+        Ok(tokens) => match read_list(alloc, tokens.as_slice()) {
+            Ok((items, rest)) => Some((items.len(), rest.len())),
+            Err(_error) => None,
+        },
+        Err(_error) => None,
+    }
+}
+
+/// How many tokens are left behind a select.
+fn selected(alloc: Global, text: &str) -> Option<usize> {
+    match tokens_of(alloc, text) {
+        Ok(tokens) => match read_select(alloc, tokens.as_slice()) {
+            Ok((_select, rest)) => Some(rest.len()),
+            Err(_error) => None,
+        },
+        Err(_error) => None,
+    }
+}
+
 #[test]
 fn deep_and_long_are_read(rt: HostRuntime) -> Result<(), Fail> {
     let alloc = rt.alloc();
@@ -337,5 +359,9 @@ fn deep_and_long_are_read(rt: HostRuntime) -> Result<(), Fail> {
     assert_eq!(rt; end_of(alloc, &sum_of(alloc, 99_999)), 199_999);
     assert_eq!(rt; left_of(alloc, "a + b ; c"), Some(2));
     assert_eq!(rt; left_of(alloc, "a + ; c"), None);
+    assert_eq!(rt; listed(alloc, "a , b + c , d ) ;"), Some((3, 2)));
+    assert_eq!(rt; listed(alloc, "a , )"), None);
+    assert_eq!(rt; selected(alloc, "b + 1 +: 4 ] = c"), Some(2));
+    assert_eq!(rt; selected(alloc, "1 : ]"), None);
     Ok(())
 }
