@@ -1,0 +1,5 @@
+pub mod ConstantLaws
+pub mod Rules
+pub mod SharingLaws
+pub mod TermLaws
+pub mod PlacingLaws

@@ -1,0 +1,10 @@
+pub mod Constants
+pub mod Nodes
+pub mod Operators
+pub mod Owns
+pub mod Placed
+pub mod Sharing
+pub mod Sizings
+pub mod Tables
+pub mod Terms
+pub mod Texts

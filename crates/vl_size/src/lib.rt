@@ -1,0 +1,22 @@
+//! Lengths and signs of expressions (IEEE 1364-2005, 5.4 and 5.5).
+#![tactic(auto, using(crate::proofs::Rules::nodes))]
+
+mod constant;
+mod laws;
+mod nodes;
+mod numbers;
+mod operators;
+mod own;
+mod placed;
+mod sizes;
+mod table;
+mod tree;
+
+pub use constant::{Const, CountList};
+pub use laws::operands_share;
+pub use operators::{
+    BinaryOperator, SystemFunction, UnaryOperator, binary_operator, system_function, unary_operator,
+};
+pub use sizes::{SizedExpr, SizedExprList, size, size_in};
+pub use table::{LengthList, NameKind, SizeEntry, SizeEntryList, SizeTable, Sizes};
+pub use tree::{Narrow, Node, Operands, Size, Sizing};
