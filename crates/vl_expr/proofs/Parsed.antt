@@ -1,10 +1,11 @@
 -- What an answer of the reader says of the tokens between two places.
-use Rattle.std.proofs.Common.{◌≡◌, ◌≢◌, ℕ, suc, ◌-◌, ◌<◌, ◌≤◌, length, take, drop, inl, inr, refl, subst, arith}
-use Rattle.std.proofs.lemmas.Bool.{cases_lt}
+use Rattle.std.proofs.Common.{◌≡◌, ◌≢◌, ℕ, suc, ◌-◌, ◌<◌, ◌≤◌, length, take, drop, inl, inr, refl, subst, arith, Bool, true, sym, ◌∙◌}
+use Rattle.std.proofs.lemmas.Bool.{cases_lt, eqb-true}
 use Rattle.std.specs.Prelude.{Result, Ok, Err}
 use Rattle.vl_tree.specs.declared.words.Word.{Word}
 use Rattle.vl_tree.specs.declared.words.Word.TheVariants as word
 use Rattle.vl_tree.specs.declared.expressions.Expr.{Expr}
+use Rattle.vl_grammar.specs.declared.roles.Role.{Role}
 use Rattle.vl_grammar.specs.declared.roles.Role.TheVariants as role
 use Rattle.vl_grammar.specs.Roles.{role_of, binds}
 use Rattle.vl_grammar.specs.Read.{Tokens, expr}
@@ -13,6 +14,7 @@ use Rattle.vl_grammar.specs.Longest.{Stands, NoneBegins}
 use Rattle.vl_grammar.proofs.Longest.{front_refused, none_empty}
 use Rattle.vl_expr.specs.declared.errors.ReadError.{ReadError}
 use Rattle.vl_expr.specs.declared.errors.ReadError.TheVariants.{NoMemory, Refused}
+use Rattle.vl_expr.specs.Ends.{closes}
 use Rattle.vl_expr.specs.Gives.{Gives}
 
 pub error_none : {X : Type 0} (view : X → Expr × Tokens) (ts : Tokens) (at end : ℕ) (error : ReadError)
@@ -33,12 +35,21 @@ paren_role : (w : Word) → w ≡ word.LeftParen → role_of w ≡ role.LeftPare
 unfolding role_of
 paren_role w h = rw h refl
 
-pub ends_by_role : (w : Word) → role_of w ≢ role.Question → role_of w ≢ role.LeftBracket → role_of w ≢ role.LeftParen → binds w ≡ 0 → Ends w
+ends_by_role : (w : Word) → role_of w ≢ role.Question → role_of w ≢ role.LeftBracket → role_of w ≢ role.LeftParen → binds w ≡ 0 → Ends w
 ends_by_role w q b p j = record {
   joins = j;
   chooses = λ h. q (question_role w h);
   bare = record { selects = λ h. b (bracket_role w h); calls = λ h. p (paren_role w h) };
 }
+
+closes_by_role : (w : Word) (r : Role) → role_of w ≡ r → closes r (binds w) ≡ true → Ends w
+closes_by_role w role.Question e h = cc
+closes_by_role w role.LeftBracket e h = cc
+closes_by_role w role.LeftParen e h = cc
+closes_by_role w _ e h = ends_by_role w (λ k. cc) (λ k. cc) (λ k. cc) (eqb-true (binds w) 0 h)
+
+pub closes_ends : (w : Word) (b : Bool) → b ≡ closes (role_of w) (binds w) → b ≡ true → Ends w
+closes_ends w b e h = closes_by_role w (role_of w) refl (sym e ∙ h)
 
 -- one end less to try
 pub one_end_less : (ts : Tokens) (at end : ℕ) → ((t : Expr) (n : ℕ) → end < n → Stands t ts at n → ⊥) → ((t : Expr) → Stands t ts at end → ⊥)

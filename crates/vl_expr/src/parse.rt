@@ -5,6 +5,8 @@ ghost use Rattle.vl_tree.specs.declared.faults.Place.TheVariants as spec_place;
 ghost use Rattle.vl_grammar.specs.Read as spec;
 ghost use Rattle.vl_grammar.specs.Spells.{Whole, Ends};
 ghost use Rattle.vl_grammar.specs.Longest.{Stands, IsLongest, NoneBegins};
+ghost use Rattle.vl_grammar.specs.Roles as spec_roles;
+ghost use Rattle.vl_expr.specs.Ends.{closes};
 ghost use Rattle.vl_expr.specs.Gives.{Gives};
 ghost use Rattle.vl_expr.specs.Parsed.{place_at as spec_place_at, Refuses};
 
@@ -25,7 +27,7 @@ pub fn read_expr<'t, 'f>(alloc: Global, tokens: &'t [Token<'f>]) -> Read<'t, 'f,
 
 /// Whether no expression goes on with this word.
 fn ends(word: Word) -> bool
-    ensures { result ≡ true → Ends word }
+    ensures { result ≡ closes (spec_roles.role_of word) (spec_roles.binds word) }
 {
     match role_of(word) {
         Role::Question | Role::LeftBracket | Role::LeftParen => false,

@@ -1,0 +1,11 @@
+-- Words behind an expression.
+use Rattle.std.specs.Prelude.{ℕ, ◌==◌, Bool, false}
+use Rattle.vl_grammar.specs.declared.roles.Role.{Role}
+use Rattle.vl_grammar.specs.declared.roles.Role.TheVariants as role
+
+-- whether no expression goes on with a word of this role that binds so tightly
+abbrev pub closes : Role → ℕ → Bool
+closes role.Question tightness = false
+closes role.LeftBracket tightness = false
+closes role.LeftParen tightness = false
+closes _ tightness = tightness == 0
