@@ -42,6 +42,13 @@ space_right b bs s h = (b ∷ [], bs, refl, refl, omega arith, inl h, longest b 
 within_run : (q : ℕ → Bool) (bs more rest : Text) (n : ℕ) → bs ≡ more ++ rest → list_all q more ≡ true → prefix_len q bs ≡ n → length more ≤ n
 within_run q bs more rest n e h f = let r = run_reaches q more rest h in let g = ap (prefix_len q) e in omega arith
 
+above : (n : ℕ) → (n == 0) ≡ false → 0 < n
+above n h = grind (arith, nat_tests)
+
+some_run : (q : ℕ → Bool) (run : Text) (n : ℕ) → list_all q run ≡ true → length run ≡ n → (n == 0) ≡ false → is_run q run ≡ true
+some_run q [] n h e z = absurd (let k : (0 == 0) ≡ false = ap (λ m. m == 0) e ∙ z in cc)
+some_run q (x ∷ xs) n h e z = h
+
 name_right : (b : ℕ) (bs : Text) → sort b ≡ s_letter → is_letter b ≡ true → IsRight (b ∷ bs) (p.Token k.Name (1 + prefix_len is_name bs))
 name_right b bs s h =
     let r = split_run is_name bs in (
@@ -409,10 +416,6 @@ escaped_right bs f g =
     fits more rest e (inl h) = absurd (no_join bs more rest f g e h)
     fits more rest e (inr h) = within_run is_graphic bs more rest (prefix_len is_graphic bs) e (run_first is_graphic more h).2 refl
 
-    is_some_run : (run : Text) (n : ℕ) → list_all is_graphic run ≡ true → length run ≡ n → (n == 0) ≡ false → is_run is_graphic run ≡ true
-    is_some_run [] n h e z = absurd (let q : (0 == 0) ≡ false = ap (λ k. k == 0) e ∙ z in cc)
-    is_some_run (x ∷ xs) n h e z = h
-
     some : Run is_graphic bs → (prefix_len is_graphic bs == 0) ≡ false → IsRight (92 ∷ bs) (p.Token k.Escaped (1 + prefix_len is_graphic bs))
     some r z = (
       92 ∷ r.0,
@@ -420,7 +423,7 @@ escaped_right bs f g =
       ap (λ z. 92 ∷ z) r.2,
       omega (arith, r.4),
       omega arith,
-      is_some_run r.0 (prefix_len is_graphic bs) r.3 r.4 z,
+      some_run is_graphic r.0 (prefix_len is_graphic bs) r.3 r.4 z,
       longest 92 bs s_backslash (92 ∷ r.0) refl (λ more rest e o. omega (arith, r.4, fits more rest e o)),
     )
 
@@ -462,13 +465,6 @@ dollar_right bs =
     fits more rest n z l e (inl h) = omega arith
     fits more rest n z l e (inr h) = within_run is_name bs more rest n e (run_first is_name more h).2 z
 
-    is_some_run : (run : Text) (n : ℕ) → list_all is_name run ≡ true → length run ≡ n → (n == 0) ≡ false → is_run is_name run ≡ true
-    is_some_run [] n h e z = absurd (let q : (0 == 0) ≡ false = ap (λ k. k == 0) e ∙ z in cc)
-    is_some_run (x ∷ xs) n h e z = h
-
-    above : (n : ℕ) → (n == 0) ≡ false → 0 < n
-    above n h = grind (arith, nat_tests)
-
     some : Run is_name bs → (prefix_len is_name bs == 0) ≡ false → IsRight (36 ∷ bs) (p.Token k.System (1 + prefix_len is_name bs))
     some r z = (
       36 ∷ r.0,
@@ -476,7 +472,7 @@ dollar_right bs =
       ap (λ z. 36 ∷ z) r.2,
       omega (arith, r.4),
       omega arith,
-      is_some_run r.0 (prefix_len is_name bs) r.3 r.4 z,
+      some_run is_name r.0 (prefix_len is_name bs) r.3 r.4 z,
       longest 36 bs s_dollar (36 ∷ r.0) refl (λ more rest e o. omega (arith, r.4, fits more rest (prefix_len is_name bs) refl (above (prefix_len is_name bs) z) e o)),
     )
 
@@ -524,9 +520,6 @@ tick_right bs =
     (λ h. (39 ∷ [], bs, refl, refl, omega arith, refl, longest 39 bs s_tick (39 ∷ []) refl (λ more rest e o. within more rest e o (is_number (base_len (39 ∷ bs)) 0 h))))
     (λ h. some (base_len (39 ∷ bs)) refl (above (base_len (39 ∷ bs)) h) (split_base (39 ∷ bs) (above (base_len (39 ∷ bs)) h)))
   where
-    above : (n : ℕ) → (n == 0) ≡ false → 0 < n
-    above n h = grind (arith, nat_tests)
-
     counted : (more rest : Text) → bs ≡ more ++ rest → IsBasedNumber (39 ∷ more) → suc (length more) ≤ base_len (39 ∷ bs)
     counted more rest e n = elim (sized_or_not 39 more n) [
       | inl s ↦ absurd (no_digit n.size n.before (n.mark ++ (n.behind ++ n.digits)) n.whole s)
