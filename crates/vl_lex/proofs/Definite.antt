@@ -12,12 +12,13 @@ use Rattle.vl_lex.specs.declared.lexer.Cursor.{Cursor}
 use Rattle.vl_lex.specs.Bytes.{Text, is_digit, is_letter, is_name, is_decimal, is_graphic}
 use Rattle.vl_lex.specs.Pieces.{piece}
 use Rattle.vl_lex.specs.Lexed.{Lexed, with_tokens, past_space, past_join, past_token, token_here, lexed, beginning, file_tokens}
-use Rattle.vl_lex.specs.Forms.{begins, is_run, marked, is_join, is_base_mark, IsBasedNumber, is_operator, IsToken, IsSpace, Fits, fits_space, fits_join, fits_token, NothingFits, NeverEnds, Taken, Cut, cut_end, cut_space, cut_join, cut_token, cut_bad, cut_unclosed}
+use Rattle.vl_lex.specs.Forms.{begins, is_run, marked, is_join, is_base_mark, IsBasedNumber, IsToken, IsSpace, Fits, fits_space, fits_join, fits_token, NothingFits, NeverEnds, Taken, Cut, cut_end, cut_space, cut_join, cut_token, cut_bad, cut_unclosed}
 use Rattle.vl_lex.proofs.Runs.{both, is_number}
 use Rattle.vl_lex.proofs.Fitting.{Sort, s_space, s_letter, s_digit, s_slash, s_backslash, s_quote, s_dollar, s_backquote, s_tick, s_other, sort, sort_letter, sort_digit, sort_space, sort_mark, operator_sort, mark_at, line_at, join_at, based_at, nothing_empty}
 use Rattle.vl_lex.proofs.Longest.{IsRight, piece_right, unended}
 use Rattle.vl_lex.proofs.Turns.{space_goes, join_goes, token_goes, bad_stops, unclosed_stops}
 use Rattle.vl_lex.proofs.Cuts.{ends}
+use Rattle.vl_lex.proofs.Operators.{is_short, listed_short}
 
 -- what a text is that fits, by its first byte; the lengths do not count
 abbrev pub by_sort : Sort → Text → Piece
@@ -80,7 +81,7 @@ system_what : (b : ℕ) (bs : Text) → marked 36 (is_run is_name) (b ∷ bs) �
 system_what b [] h = absurd (let t = both (b == 36) false h in cc)
 system_what b (c ∷ cs) h = of_sort b (c ∷ cs) s_dollar (ap sort (mark_at 36 b (is_run is_name) (c ∷ cs) h))
 
-operator_what : (b : ℕ) (bs : Text) → is_operator (b ∷ bs) ≡ true → what (b ∷ bs) ≡ p.Token k.Operator 0
+operator_what : (b : ℕ) (bs : Text) → is_short (b ∷ bs) ≡ true → what (b ∷ bs) ≡ p.Token k.Operator 0
 operator_what b [] h = absurd (cc)
 operator_what b (c ∷ cs) h = of_sort b (c ∷ cs) s_other (operator_sort b (c ∷ cs) h)
 
@@ -110,7 +111,7 @@ token_what k.Directive b bs h = of_sort b bs s_backquote (ap sort (mark_at 96 b 
 token_what k.Number b bs (inl h) = of_sort b bs s_digit (sort_digit b (both (is_digit b) (list_all is_decimal bs) h).0)
 token_what k.Number b bs (inr h) = based_what b bs h (based_at b bs h)
 token_what k.Quoted b bs h = ap what h.1
-token_what k.Operator b bs h = operator_what b bs h
+token_what k.Operator b bs h = operator_what b bs (listed_short (b ∷ bs) h)
 token_what k.Single b [] h = single_what b (sort_mark b h)
 token_what k.Single b (c ∷ cs) h = absurd (cc)
 

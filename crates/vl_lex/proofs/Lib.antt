@@ -11,6 +11,7 @@ pub mod Fitting
 pub mod Gates
 pub mod Gives
 pub mod Longest
+pub mod Operators
 pub mod Outcomes
 pub mod Places
 pub mod Reach

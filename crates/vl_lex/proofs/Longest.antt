@@ -8,11 +8,12 @@ use Rattle.vl_lex.specs.declared.pieces.Piece.{Piece}
 use Rattle.vl_lex.specs.declared.pieces.Piece.TheVariants as p
 use Rattle.vl_lex.specs.Bytes.{Text, first, other_than_newline, is_space, is_digit, is_letter, is_name, is_decimal, is_graphic}
 use Rattle.vl_lex.specs.Pieces.{base_len, number_len, comment_end, quote_end, is_pair, is_triple, operator_piece, closed_space, slash_piece, closed_quote, quote_piece, backslash_piece, dollar_piece, directive_piece, tick_piece, mark_piece, piece}
-use Rattle.vl_lex.specs.Forms.{begins, is_run, marked, is_join, is_line_comment, never_closes, IsBlockComment, is_quotable, IsString, blank_none, is_decimal_number, is_base_mark, IsSize, IsBasedNumber, is_operator, is_mark, IsToken, IsSpace, Longest, NothingFits, NeverEnds}
+use Rattle.vl_lex.specs.Forms.{begins, is_run, marked, is_join, is_line_comment, never_closes, IsBlockComment, is_quotable, IsString, blank_none, is_decimal_number, is_base_mark, IsSize, IsBasedNumber, is_mark, IsToken, IsSpace, Longest, NothingFits, NeverEnds}
 use Rattle.vl_lex.proofs.Runs.{on_if, both, pair, negated, is_number, Run, split_run, run_reaches}
 use Rattle.vl_lex.proofs.Based.{sized_reaches, base_reaches, mark_first, more_digits, Base, split_base, split_number}
 use Rattle.vl_lex.proofs.Reach.{pair_there, triple_there}
 use Rattle.vl_lex.proofs.Fitting.{Sort, s_space, s_letter, s_digit, s_slash, s_backslash, s_quote, s_dollar, s_backquote, s_tick, s_other, sort, Of, reach}
+use Rattle.vl_lex.proofs.Operators.{is_short, pairs, triples}
 
 abbrev pub Good : Text → (Text → Type 0) → ℕ → Type 0
 Good text form n = (front : Text) × (rest : Text) × (text ≡ front ++ rest) × (length front ≡ n) × (0 < n) × form front × Longest text front
@@ -557,7 +558,7 @@ tick_right bs =
 mark_true : (b : ℕ) → is_graphic b ≡ true → is_letter b ≡ false → is_digit b ≡ false → (b == 34) ≡ false → (b == 92) ≡ false → (b == 96) ≡ false → is_mark b ≡ true
 mark_true b g l d q s c = rw (g, l, d, q, s, c) refl
 
-operator_next : (b : ℕ) (more : Text) → is_operator (b ∷ more) ≡ true
+operator_next : (b : ℕ) (more : Text) → is_short (b ∷ more) ≡ true
     → ((length more ≡ 1) × (is_pair b (first more) ≡ true)) ⊎ ((length more ≡ 2) × (is_triple b (first more) (first (drop 1 more)) ≡ true))
 operator_next b [] h = absurd (cc)
 operator_next b (x ∷ []) h = inl (refl, h)
@@ -604,7 +605,7 @@ operator_right b bs s l d q u c =
     three : (bs : Text) → is_triple b (first bs) (first (drop 1 bs)) ≡ true → IsRight (b ∷ bs) (p.Token k.Operator 3)
     three [] h = absurd (omega (arith, triple_there b [] h))
     three (x ∷ []) h = absurd (omega (arith, triple_there b (x ∷ []) h))
-    three (x ∷ y ∷ ys) h = (b ∷ x ∷ y ∷ [], ys, refl, refl, omega arith, h, longest b (x ∷ y ∷ ys) s_other (b ∷ x ∷ y ∷ []) s (λ more rest e o. omega (arith, at_most more o)))
+    three (x ∷ y ∷ ys) h = (b ∷ x ∷ y ∷ [], ys, refl, refl, omega arith, triples b x y h, longest b (x ∷ y ∷ ys) s_other (b ∷ x ∷ y ∷ []) s (λ more rest e o. omega (arith, at_most more o)))
 
     at_most_two : (bs more rest : Text) → is_triple b (first bs) (first (drop 1 bs)) ≡ false → bs ≡ more ++ rest → Of s_other (b ∷ more) → length more ≤ 1
     at_most_two bs [] rest f e (inl h) = omega arith
@@ -613,7 +614,7 @@ operator_right b bs s l d q u c =
 
     two : (bs : Text) → is_pair b (first bs) ≡ true → is_triple b (first bs) (first (drop 1 bs)) ≡ false → IsRight (b ∷ bs) (p.Token k.Operator 2)
     two [] h f = absurd (omega (arith, pair_there b [] h))
-    two (x ∷ xs) h f = (b ∷ x ∷ [], xs, refl, refl, omega arith, h, longest b (x ∷ xs) s_other (b ∷ x ∷ []) s (λ more rest e o. omega (arith, at_most_two (x ∷ xs) more rest f e o)))
+    two (x ∷ xs) h f = (b ∷ x ∷ [], xs, refl, refl, omega arith, pairs b x h, longest b (x ∷ xs) s_other (b ∷ x ∷ []) s (λ more rest e o. omega (arith, at_most_two (x ∷ xs) more rest f e o)))
 
 mark_right : (b : ℕ) (bs : Text) → is_space b ≡ false → is_letter b ≡ false → is_digit b ≡ false → IsRight (b ∷ bs) (mark_piece b bs)
 unfolding mark_piece
