@@ -1,12 +1,13 @@
 -- Numbers at the front of a text.
 use Rattle.std.proofs.Common.{◌≡◌, ℕ, zero, suc, ◌+◌, ◌<◌, ◌≤◌, ◌==◌, nat_le, Bool, true, false, ◌&&◌, ◌⊎◌, inl, inr, [], ◌∷◌, ◌++◌, length, drop, refl, ap, sym, ◌∙◌, subst, append_assoc, arith}
+use Rattle.std.proofs.Math.Seq.{drop-append_seam}
 use Rattle.std.specs.List.{prefix_len, list_all}
 use Rattle.std.proofs.lemmas.List.{length-append, drop-drop}
 use Rattle.std.proofs.lemmas.Bool.Decides.{nat_tests}
 use Rattle.vl_lex.specs.Bytes.{Text, first, is_space, is_digit, is_decimal, is_based, is_base, is_sign}
 use Rattle.vl_lex.specs.Pieces.{blank_len, blanks, digits_len, base_len, number_len}
 use Rattle.vl_lex.specs.Forms.{is_run, IsBlank, blank_none, blank_space, blank_join, blank_return, is_decimal_number, is_base_mark, IsValue, IsBasedNumber}
-use Rattle.vl_lex.proofs.Runs.{on_if, both, pair, is_number, split_run, run_reaches, run_ends, drop_front, no_blank, blank_reaches, split_blanks}
+use Rattle.vl_lex.proofs.Runs.{on_if, both, pair, is_number, split_run, run_reaches, run_ends, no_blank, blank_reaches, split_blanks}
 
 not_space : (b : ℕ) → nat_le 33 b ≡ true → is_space b ≡ false
 not_space b h = grind (arith, nat_tests)
@@ -39,7 +40,7 @@ run_reach behind (b ∷ bs) rest h d =
     let t = both (is_based b) (list_all is_based bs) d in
     let e : blanks 0 (behind ++ (b ∷ (bs ++ rest))) ≡ length behind = blank_reaches h (b ∷ (bs ++ rest)) ∙ omega (arith, no_blank_based b (bs ++ rest) t.0) in
     let m = run_reaches is_based (b ∷ bs) rest d in
-    let f : prefix_len is_based (drop (length behind) (behind ++ (b ∷ (bs ++ rest)))) ≡ prefix_len is_based (b ∷ (bs ++ rest)) = ap (prefix_len is_based) (drop_front behind (b ∷ (bs ++ rest))) in
+    let f : prefix_len is_based (drop (length behind) (behind ++ (b ∷ (bs ++ rest)))) ≡ prefix_len is_based (b ∷ (bs ++ rest)) = ap (prefix_len is_based) (drop-append_seam behind (b ∷ (bs ++ rest))) in
     let all = digits_are (behind ++ (b ∷ (bs ++ rest))) (length behind) (prefix_len is_based (b ∷ (bs ++ rest))) e f (omega arith) in
     omega arith
 
@@ -123,9 +124,9 @@ sized_reaches size before mark behind digits rest s b m h d =
     let run = decimal_run size s in
     let e : prefix_len is_decimal (size ++ (before ++ tail)) ≡ length size = run_ends is_decimal size (before ++ tail) run.0 (blank_first b tail tick) in
     let f : blanks 0 (drop (length size) (size ++ (before ++ tail))) ≡ length before =
-    ap (blanks 0) (drop_front size (before ++ tail)) ∙ (blank_reaches b tail ∙ omega (arith, no_blank_tick tail tick)) in
+    ap (blanks 0) (drop-append_seam size (before ++ tail)) ∙ (blank_reaches b tail ∙ omega (arith, no_blank_tick tail tick)) in
     let g : base_len (drop (length size + length before) (size ++ (before ++ tail))) ≡ base_len tail =
-    ap base_len (sym (drop-drop (length before) (length size) (size ++ (before ++ tail))) ∙ (ap (drop (length before)) (drop_front size (before ++ tail)) ∙ drop_front before tail)) in
+    ap base_len (sym (drop-drop (length before) (length size) (size ++ (before ++ tail))) ∙ (ap (drop (length before)) (drop-append_seam size (before ++ tail)) ∙ drop-append_seam before tail)) in
     let r = base_reaches mark behind digits rest m h d in
     let p : 0 < length mark = positive mark m in
     let all = based_is (size ++ (before ++ tail)) (length size) (length before) (base_len tail) e f g (omega arith) in
@@ -155,7 +156,7 @@ there_are bs h =
     let s = split_blanks bs in
     let r = split_run is_based s.1 in
     let c : 0 < prefix_len is_based (drop (blanks 0 bs) bs) = positive_count bs h in
-    let same : drop (blanks 0 bs) bs ≡ s.1 = ap (λ n. drop n bs) (sym s.4) ∙ (ap (drop (length s.0)) s.2 ∙ drop_front s.0 s.1) in
+    let same : drop (blanks 0 bs) bs ≡ s.1 = ap (λ n. drop n bs) (sym s.4) ∙ (ap (drop (length s.0)) s.2 ∙ drop-append_seam s.0 s.1) in
     let n : prefix_len is_based (drop (blanks 0 bs) bs) ≡ length r.0 = ap (prefix_len is_based) same ∙ sym r.4 in
     let all = digits_are bs (length s.0) (length r.0) (sym s.4) (ap (λ k. prefix_len is_based (drop k bs)) s.4 ∙ n) (omega arith) in
     (s.0, r.0, r.1, s.2 ∙ ap (λ z. s.0 ++ z) r.2, s.3, inl (nonempty_run is_based r.0 r.3 (omega arith)), sym all)
@@ -214,10 +215,10 @@ split_number b bs d =
     let s = split_blanks r.1 in
     let size : is_decimal_number r.0 ≡ true = starts_digit b bs r.0 r.1 d r.2 r.3 (omega (arith, r.4, counts_one b bs d)) in
     let e : prefix_len is_decimal (b ∷ bs) ≡ length r.0 = sym r.4 in
-    let rest : drop (length r.0) (b ∷ bs) ≡ r.1 = ap (drop (length r.0)) r.2 ∙ drop_front r.0 r.1 in
+    let rest : drop (length r.0) (b ∷ bs) ≡ r.1 = ap (drop (length r.0)) r.2 ∙ drop-append_seam r.0 r.1 in
     let f : blanks 0 (drop (length r.0) (b ∷ bs)) ≡ length s.0 = ap (blanks 0) rest ∙ sym s.4 in
     let tail : drop (length r.0 + length s.0) (b ∷ bs) ≡ s.1 =
-    sym (drop-drop (length s.0) (length r.0) (b ∷ bs)) ∙ (ap (drop (length s.0)) rest ∙ (ap (drop (length s.0)) s.2 ∙ drop_front s.0 s.1)) in
+    sym (drop-drop (length s.0) (length r.0) (b ∷ bs)) ∙ (ap (drop (length s.0)) rest ∙ (ap (drop (length s.0)) s.2 ∙ drop-append_seam s.0 s.1)) in
     elim (zero_or_more (base_len s.1)) as (λ z. Numbered (b ∷ bs)) [
       | inl z ↦ (r.0, r.1, r.2, inl size, sym (plain_is (b ∷ bs) (length r.0) (length s.0) e f (ap base_len tail ∙ z)))
       | inr h ↦ with_base b bs r.0 r.1 s.0 s.1 r.2 s.2 s.3 size e f tail h (split_base s.1 h)

@@ -13,27 +13,11 @@ use Rattle.vl_lex.specs.declared.directives.Directive.{Directive}
 use Rattle.vl_lex.specs.declared.directives.Directive.TheVariants as d
 use Rattle.vl_lex.specs.Bytes.{Text}
 use Rattle.vl_lex.specs.Lexed.{Seen, Placed}
-use Rattle.vl_lex.specs.Gate.{Reached, and_then, halt_reason, fed}
+use Rattle.vl_lex.specs.Gate.{and_then, halt_reason, fed}
 use Rattle.vl_lex.specs.Macros.{Table, updated, directive_of, directive_name, is_directive, marked, expanded}
 use Rattle.vl_lex.specs.Walk.{SState, with_gate, with_implicit, with_listed, most_files, refused, acted, is_name_kind, opens_bracket, bare, row_len, name_after, defined_with, define_turn, undef_with, undef_turn, nettype_with, nettype_turn, macro_turn, inner_text, is_quoted, is_file_name, Branched, branch_turn, step_branch, passed, fed_state, SBranches, Acted, Step, find_file, enter_at, list_turn, include_turn, act, is_branch_word, directive_step, step, predefined, start}
 use Rattle.vl_lex.specs.Expansion.{Member, Covers, IsBounded}
-
-abbrev pub Holds : {S : Type 0} → (S → Type 0) → Reached S → Type 0
-Holds R (Ok a) = R a
-Holds R (Err e) = Unit {0}
-
-then_holds : {A B : Type 0} (R : A → Type 0) (S : B → Type 0) (o : Reached A) (f : A → Reached B) → Holds R o → ((a : A) → R a → Holds S (f a)) → Holds S (and_then o f)
-then_holds R S (Ok a) f g k = k a g
-then_holds R S (Err e) f g k = tt
-
--- whatever the call before gave
-anyway : {A B : Type 0} (S : B → Type 0) (o : Reached A) (f : A → Reached B) → ((a : A) → Holds S (f a)) → Holds S (and_then o f)
-anyway S (Ok a) f k = k a
-anyway S (Err e) f k = tt
-
-either : {A : Type 0} (R : A → Type 0) (c : Bool) (x y : Reached A) → Holds R x → Holds R y → Holds R (if c then x else y)
-either R true x y g k = g
-either R false x y g k = k
+use Rattle.vl_lex.proofs.Outcomes.{Holds, then_holds, anyway, either}
 
 one_more : (table : Table) (name : Text) (body : List Seen) (names : List Text) → Covers table names → Covers (updated table name (Some body)) (name ∷ names)
 one_more table name body names c q other e = go (bytes_eq name q) refl e

@@ -1,5 +1,6 @@
 -- The bytes of a file are cut into pieces, each the longest that fits; where its tokens stand.
 use Rattle.std.proofs.Common.{◌≡◌, ℕ, zero, suc, ◌+◌, ◌≤◌, [], ◌∷◌, ◌++◌, length, drop, take, refl, ap, sym, ◌∙◌, subst, arith}
+use Rattle.std.proofs.Math.Seq.{drop-append_seam, take-append_seam}
 use Rattle.std.proofs.lemmas.List.{length-append}
 use Rattle.vl_lex.specs.declared.pieces.Piece.{Piece}
 use Rattle.vl_lex.specs.declared.pieces.Piece.TheVariants as p
@@ -8,7 +9,6 @@ use Rattle.vl_lex.specs.Bytes.{Text}
 use Rattle.vl_lex.specs.Pieces.{piece}
 use Rattle.vl_lex.specs.Lexed.{Lexed, nothing, with_tokens, past_space, past_join, past_token, token_here, lexed, beginning, file_tokens}
 use Rattle.vl_lex.specs.Forms.{Longest, Taken, Cut, cut_end, cut_space, cut_join, cut_token, cut_bad, cut_unclosed}
-use Rattle.vl_lex.proofs.Runs.{drop_front, take_front}
 use Rattle.vl_lex.proofs.Longest.{IsRight, piece_right, unended}
 use Rattle.vl_lex.proofs.Turns.{space_goes, join_goes, token_goes, bad_stops, unclosed_stops}
 
@@ -16,15 +16,15 @@ moved : (file : ℕ) (here : Cursor) (text front rest : Text) (l : Lexed) → te
 moved file here text front rest l e is c = subst (λ z. Cut file here z (lexed file 0 here text)) (sym e) (subst (λ z. Cut file here (front ++ rest) z) (sym is) c)
 
 taken : (n : ℕ) (text front rest : Text) → text ≡ front ++ rest → length front ≡ n → take n text ≡ front
-taken n text front rest e l = ap (λ z. take z text) (sym l) ∙ (ap (take (length front)) e ∙ take_front front rest)
+taken n text front rest e l = ap (λ z. take z text) (sym l) ∙ (ap (take (length front)) e ∙ take-append_seam front rest)
 
 dropped : (n : ℕ) (text front rest : Text) → text ≡ front ++ rest → length front ≡ n → drop n text ≡ rest
-dropped n text front rest e l = ap (λ z. drop z text) (sym l) ∙ (ap (drop (length front)) e ∙ drop_front front rest)
+dropped n text front rest e l = ap (λ z. drop z text) (sym l) ∙ (ap (drop (length front)) e ∙ drop-append_seam front rest)
 
 there : (text front : Text) (e : Text) (x : Piece) → text ≡ e → piece text ≡ x → (x ≡ p.Unclosed → ⊥) → Longest text front → Taken e front
 there text front e x q is not_open l = subst (λ z. Taken z front) q (l, λ n. not_open (sym is ∙ unended text n))
 
-ends : (file : ℕ) (here : Cursor) → lexed file 0 here [] ≡ nothing
+pub ends : (file : ℕ) (here : Cursor) → lexed file 0 here [] ≡ nothing
 unfolding lexed
 ends file here = refl
 

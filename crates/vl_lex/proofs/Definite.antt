@@ -1,5 +1,6 @@
 -- Whatever the bytes of a file are cut into is what the lexer gives.
 use Rattle.std.proofs.Common.{◌≡◌, ℕ, ◌<◌, ◌≤◌, ◌==◌, Bool, true, false, ◌&&◌, ◌⊎◌, inl, inr, if◌then◌else◌, [], ◌∷◌, ◌++◌, length, drop, take, refl, ap, sym, ◌∙◌, arith}
+use Rattle.std.proofs.Math.Seq.{drop-append_seam, take-append_seam}
 use Rattle.std.specs.List.{list_all}
 use Rattle.std.proofs.lemmas.List.{length-append}
 use Rattle.std.proofs.lemmas.Bool.Decides.{nat_tests}
@@ -10,12 +11,14 @@ use Rattle.vl_lex.specs.declared.pieces.Piece.TheVariants as p
 use Rattle.vl_lex.specs.declared.lexer.Cursor.{Cursor}
 use Rattle.vl_lex.specs.Bytes.{Text, is_digit, is_letter, is_name, is_decimal, is_graphic}
 use Rattle.vl_lex.specs.Pieces.{piece}
-use Rattle.vl_lex.specs.Lexed.{Lexed, nothing, with_tokens, past_space, past_join, past_token, token_here, lexed, beginning, file_tokens}
-use Rattle.vl_lex.specs.Forms.{begins, is_run, marked, is_join, is_base_mark, IsBasedNumber, is_operator, IsToken, IsSpace, Fits, fits_space, fits_join, fits_token, NothingFits, NeverEnds, Taken, Cut, cut_end, cut_space, cut_join, cut_token, cut_bad, cut_unclosed}
-use Rattle.vl_lex.proofs.Runs.{both, is_number, drop_front, take_front}
+use Rattle.vl_lex.specs.Lexed.{Lexed, with_tokens, past_space, past_join, past_token, token_here, lexed, beginning, file_tokens}
+use Rattle.vl_lex.specs.Forms.{begins, is_run, marked, is_join, is_base_mark, IsBasedNumber, IsToken, IsSpace, Fits, fits_space, fits_join, fits_token, NothingFits, NeverEnds, Taken, Cut, cut_end, cut_space, cut_join, cut_token, cut_bad, cut_unclosed}
+use Rattle.vl_lex.proofs.Runs.{both, is_number}
 use Rattle.vl_lex.proofs.Fitting.{Sort, s_space, s_letter, s_digit, s_slash, s_backslash, s_quote, s_dollar, s_backquote, s_tick, s_other, sort, sort_letter, sort_digit, sort_space, sort_mark, operator_sort, mark_at, line_at, join_at, based_at, nothing_empty}
 use Rattle.vl_lex.proofs.Longest.{IsRight, piece_right, unended}
 use Rattle.vl_lex.proofs.Turns.{space_goes, join_goes, token_goes, bad_stops, unclosed_stops}
+use Rattle.vl_lex.proofs.Cuts.{ends}
+use Rattle.vl_lex.proofs.Operators.{is_short, listed_short}
 
 -- what a text is that fits, by its first byte; the lengths do not count
 abbrev pub by_sort : Sort → Text → Piece
@@ -78,7 +81,7 @@ system_what : (b : ℕ) (bs : Text) → marked 36 (is_run is_name) (b ∷ bs) �
 system_what b [] h = absurd (let t = both (b == 36) false h in cc)
 system_what b (c ∷ cs) h = of_sort b (c ∷ cs) s_dollar (ap sort (mark_at 36 b (is_run is_name) (c ∷ cs) h))
 
-operator_what : (b : ℕ) (bs : Text) → is_operator (b ∷ bs) ≡ true → what (b ∷ bs) ≡ p.Token k.Operator 0
+operator_what : (b : ℕ) (bs : Text) → is_short (b ∷ bs) ≡ true → what (b ∷ bs) ≡ p.Token k.Operator 0
 operator_what b [] h = absurd (cc)
 operator_what b (c ∷ cs) h = of_sort b (c ∷ cs) s_other (operator_sort b (c ∷ cs) h)
 
@@ -108,7 +111,7 @@ token_what k.Directive b bs h = of_sort b bs s_backquote (ap sort (mark_at 96 b 
 token_what k.Number b bs (inl h) = of_sort b bs s_digit (sort_digit b (both (is_digit b) (list_all is_decimal bs) h).0)
 token_what k.Number b bs (inr h) = based_what b bs h (based_at b bs h)
 token_what k.Quoted b bs h = ap what h.1
-token_what k.Operator b bs h = operator_what b bs h
+token_what k.Operator b bs h = operator_what b bs (listed_short (b ∷ bs) h)
 token_what k.Single b [] h = single_what b (sort_mark b h)
 token_what k.Single b (c ∷ cs) h = absurd (cc)
 
@@ -119,7 +122,7 @@ any_token kind (b ∷ bs) h = token_what kind b bs h
 -- two pieces of one text that are equally long are one
 same_front : (front rest other tail : Text) → front ++ rest ≡ other ++ tail → length front ≡ length other → front ≡ other
 same_front front rest other tail e l =
-    sym (take_front front rest) ∙ (ap (take (length front)) e ∙ (ap (λ n. take n (other ++ tail)) l ∙ take_front other tail))
+    sym (take-append_seam front rest) ∙ (ap (take (length front)) e ∙ (ap (λ n. take n (other ++ tail)) l ∙ take-append_seam other tail))
 
 equal : (a b : ℕ) → a ≤ b → b ≤ a → a ≡ b
 equal a b h l = omega arith
@@ -190,10 +193,6 @@ never_empty : (text : Text) → NeverEnds text → 0 < length text
 never_empty text (inl n) = omega (arith, ap length n.1)
 never_empty text (inr n) = omega (arith, ap length n.1)
 
-ends : (file : ℕ) (here : Cursor) → lexed file 0 here [] ≡ nothing
-unfolding lexed
-ends file here = refl
-
 definite : {file : ℕ} {here : Cursor} {text : Text} {l : Lexed} → Cut file here text l → l ≡ lexed file 0 here text
 definite (cut_end {file} {here}) = sym (ends file here)
 definite (cut_space {file} {here} {l} front rest f t c) =
@@ -201,21 +200,21 @@ definite (cut_space {file} {here} {l} front rest f t c) =
     let is = taken_space front rest (piece (front ++ rest)) n.0 f t refl (right (front ++ rest) n.1) in
     let go = space_goes file (length front) here (front ++ rest) n.1 is n.0 in
     let k = definite c in
-    k ∙ sym (go ∙ (ap (λ z. lexed file 0 (past_space here z) (drop (length front) (front ++ rest))) (take_front front rest) ∙ ap (lexed file 0 (past_space here front)) (drop_front front rest)))
+    k ∙ sym (go ∙ (ap (λ z. lexed file 0 (past_space here z) (drop (length front) (front ++ rest))) (take-append_seam front rest) ∙ ap (lexed file 0 (past_space here front)) (drop-append_seam front rest)))
 definite (cut_join {file} {here} {l} front rest f t c) =
     let n = long front rest (fits_join f) in
     let is = taken_join front rest (piece (front ++ rest)) f t refl (right (front ++ rest) n.1) in
     let go = join_goes file (length front) here (front ++ rest) n.1 is n.0 in
     let k = definite c in
-    k ∙ sym (go ∙ (ap (λ z. lexed file 0 (past_join here z) (drop (length front) (front ++ rest))) (take_front front rest) ∙ ap (lexed file 0 (past_join here front)) (drop_front front rest)))
+    k ∙ sym (go ∙ (ap (λ z. lexed file 0 (past_join here z) (drop (length front) (front ++ rest))) (take-append_seam front rest) ∙ ap (lexed file 0 (past_join here front)) (drop-append_seam front rest)))
 definite (cut_token {file} {here} {l} kind front rest f t c) =
     let n = long front rest (fits_token kind f) in
     let is = taken_token kind front rest (piece (front ++ rest)) f t refl (right (front ++ rest) n.1) in
     let go = token_goes file (length front) here kind (front ++ rest) n.1 is n.0 in
     let k = definite c in
     ap (with_tokens (token_here file here kind front ∷ [])) k
-    ∙ sym (go ∙ (ap (λ z. with_tokens (token_here file here kind z ∷ []) (lexed file 0 (past_token here z) (drop (length front) (front ++ rest)))) (take_front front rest)
-    ∙ ap (λ z. with_tokens (token_here file here kind front ∷ []) (lexed file 0 (past_token here front) z)) (drop_front front rest)))
+    ∙ sym (go ∙ (ap (λ z. with_tokens (token_here file here kind z ∷ []) (lexed file 0 (past_token here z) (drop (length front) (front ++ rest)))) (take-append_seam front rest)
+    ∙ ap (λ z. with_tokens (token_here file here kind front ∷ []) (lexed file 0 (past_token here front) z)) (drop-append_seam front rest)))
 definite (cut_bad {file} {here} {text} h none_fits ended) = sym (bad_stops file here text h (stuck text (piece text) none_fits ended (right text h)))
 definite (cut_unclosed {file} {here} {text} n) = sym (unclosed_stops file here text (never_empty text n) (unended text n))
 

@@ -7,9 +7,10 @@ use Rattle.vl_tree.specs.declared.tokens.TokenKind.{TokenKind}
 use Rattle.vl_tree.specs.declared.tokens.TokenKind.TheVariants as k
 use Rattle.vl_lex.specs.Bytes.{Text, first, other_than_newline, is_space, is_digit, is_letter, is_name, is_decimal, is_graphic}
 use Rattle.vl_lex.specs.Pieces.{is_pair, is_triple}
-use Rattle.vl_lex.specs.Forms.{begins, is_run, marked, is_one, is_join, is_line_comment, IsBlockComment, IsString, is_decimal_number, is_base_mark, IsSize, IsBasedNumber, is_operator, is_mark, IsToken, Fits, fits_space, fits_join, fits_token}
+use Rattle.vl_lex.specs.Forms.{begins, is_run, marked, is_one, is_join, is_line_comment, IsBlockComment, IsString, is_decimal_number, is_base_mark, IsSize, IsBasedNumber, is_mark, IsToken, Fits, fits_space, fits_join, fits_token}
 use Rattle.vl_lex.proofs.Runs.{on_if, both, negated, is_number}
 use Rattle.vl_lex.proofs.Based.{mark_first}
+use Rattle.vl_lex.proofs.Operators.{is_short, listed_short}
 
 -- what a byte may begin
 pub data Sort : Type 0 where
@@ -47,7 +48,7 @@ Of s_quote text = IsString text
 Of s_dollar text = (length text ≤ 1) ⊎ (marked 36 (is_run is_name) text ≡ true)
 Of s_backquote text = marked 96 (begins is_letter is_name) text ≡ true
 Of s_tick text = (length text ≤ 1) ⊎ IsBasedNumber text
-Of s_other text = (is_one is_mark text ≡ true) ⊎ (is_operator text ≡ true)
+Of s_other text = (is_one is_mark text ≡ true) ⊎ (is_short text ≡ true)
 
 pub sort_letter : (b : ℕ) → is_letter b ≡ true → sort b ≡ s_letter
 sort_letter b h = let e : is_space b ≡ false = grind (arith, nat_tests) in rw (e, h) refl
@@ -125,7 +126,7 @@ triple_sort b c d = on_if (λ z. z ≡ true → sort b ≡ s_other) (b == 60) _ 
     on_if (λ z. z ≡ true → sort b ≡ s_other) (b == 33) _ _ (λ h z. sort_at b s_other 33 h refl) (λ _.
     λ z. absurd (cc)))))
 
-pub operator_sort : (b : ℕ) (bs : Text) → is_operator (b ∷ bs) ≡ true → sort b ≡ s_other
+pub operator_sort : (b : ℕ) (bs : Text) → is_short (b ∷ bs) ≡ true → sort b ≡ s_other
 operator_sort b [] h = absurd (cc)
 operator_sort b (c ∷ []) h = pair_sort b c h
 operator_sort b (c ∷ d ∷ []) h = triple_sort b c d h
@@ -168,7 +169,7 @@ tokens b bs k.Directive h = let s : sort b ≡ s_backquote = ap sort (mark_at 96
 tokens b bs k.Number (inl h) = let s = sort_digit b (both (is_digit b) (list_all is_decimal bs) h).0 in rw s (inl h)
 tokens b bs k.Number (inr h) = based_of b bs h (based_at b bs h)
 tokens b bs k.Quoted h = let e : b ≡ 34 = cc (h.1) in let s : sort b ≡ s_quote = ap sort e in rw s h
-tokens b bs k.Operator h = let s = operator_sort b bs h in rw s (inr h)
+tokens b bs k.Operator h = let o = listed_short (b ∷ bs) h in let s = operator_sort b bs o in rw s (inr o)
 tokens b bs k.Single h = mark_of b bs (one_long is_mark (b ∷ bs) h) h (sort_mark b (one_byte is_mark b bs h))
 
 fitting : (b : ℕ) (bs : Text) → Fits (b ∷ bs) → Of (sort b) (b ∷ bs)
@@ -197,7 +198,7 @@ nothing_empty (fits_token k.Number (inr n)) = based_empty n
         long [] h = absurd (cc)
         long (x ∷ xs) h = omega arith
 nothing_empty (fits_token k.Quoted h) = cc (h.1)
-nothing_empty (fits_token k.Operator h) = cc
+nothing_empty (fits_token k.Operator h) = let o = listed_short [] h in cc
 nothing_empty (fits_token k.Single h) = cc
 
 -- what fits at the front, by the sort of the first byte

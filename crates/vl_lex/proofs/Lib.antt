@@ -11,6 +11,8 @@ pub mod Fitting
 pub mod Gates
 pub mod Gives
 pub mod Longest
+pub mod Operators
+pub mod Outcomes
 pub mod Places
 pub mod Reach
 pub mod Rows

@@ -8,11 +8,12 @@ use Rattle.vl_lex.specs.declared.pieces.Piece.{Piece}
 use Rattle.vl_lex.specs.declared.pieces.Piece.TheVariants as p
 use Rattle.vl_lex.specs.Bytes.{Text, first, other_than_newline, is_space, is_digit, is_letter, is_name, is_decimal, is_graphic}
 use Rattle.vl_lex.specs.Pieces.{base_len, number_len, comment_end, quote_end, is_pair, is_triple, operator_piece, closed_space, slash_piece, closed_quote, quote_piece, backslash_piece, dollar_piece, directive_piece, tick_piece, mark_piece, piece}
-use Rattle.vl_lex.specs.Forms.{begins, is_run, marked, is_join, is_line_comment, never_closes, IsBlockComment, is_quotable, IsString, blank_none, is_decimal_number, is_base_mark, IsSize, IsBasedNumber, is_operator, is_mark, IsToken, IsSpace, Longest, NothingFits, NeverEnds}
+use Rattle.vl_lex.specs.Forms.{begins, is_run, marked, is_join, is_line_comment, never_closes, IsBlockComment, is_quotable, IsString, blank_none, is_decimal_number, is_base_mark, IsSize, IsBasedNumber, is_mark, IsToken, IsSpace, Longest, NothingFits, NeverEnds}
 use Rattle.vl_lex.proofs.Runs.{on_if, both, pair, negated, is_number, Run, split_run, run_reaches}
 use Rattle.vl_lex.proofs.Based.{sized_reaches, base_reaches, mark_first, more_digits, Base, split_base, split_number}
 use Rattle.vl_lex.proofs.Reach.{pair_there, triple_there}
 use Rattle.vl_lex.proofs.Fitting.{Sort, s_space, s_letter, s_digit, s_slash, s_backslash, s_quote, s_dollar, s_backquote, s_tick, s_other, sort, Of, reach}
+use Rattle.vl_lex.proofs.Operators.{is_short, pairs, triples}
 
 abbrev pub Good : Text → (Text → Type 0) → ℕ → Type 0
 Good text form n = (front : Text) × (rest : Text) × (text ≡ front ++ rest) × (length front ≡ n) × (0 < n) × form front × Longest text front
@@ -41,6 +42,13 @@ space_right b bs s h = (b ∷ [], bs, refl, refl, omega arith, inl h, longest b 
 
 within_run : (q : ℕ → Bool) (bs more rest : Text) (n : ℕ) → bs ≡ more ++ rest → list_all q more ≡ true → prefix_len q bs ≡ n → length more ≤ n
 within_run q bs more rest n e h f = let r = run_reaches q more rest h in let g = ap (prefix_len q) e in omega arith
+
+above : (n : ℕ) → (n == 0) ≡ false → 0 < n
+above n h = grind (arith, nat_tests)
+
+some_run : (q : ℕ → Bool) (run : Text) (n : ℕ) → list_all q run ≡ true → length run ≡ n → (n == 0) ≡ false → is_run q run ≡ true
+some_run q [] n h e z = absurd (let k : (0 == 0) ≡ false = ap (λ m. m == 0) e ∙ z in cc)
+some_run q (x ∷ xs) n h e z = h
 
 name_right : (b : ℕ) (bs : Text) → sort b ≡ s_letter → is_letter b ≡ true → IsRight (b ∷ bs) (p.Token k.Name (1 + prefix_len is_name bs))
 name_right b bs s h =
@@ -409,10 +417,6 @@ escaped_right bs f g =
     fits more rest e (inl h) = absurd (no_join bs more rest f g e h)
     fits more rest e (inr h) = within_run is_graphic bs more rest (prefix_len is_graphic bs) e (run_first is_graphic more h).2 refl
 
-    is_some_run : (run : Text) (n : ℕ) → list_all is_graphic run ≡ true → length run ≡ n → (n == 0) ≡ false → is_run is_graphic run ≡ true
-    is_some_run [] n h e z = absurd (let q : (0 == 0) ≡ false = ap (λ k. k == 0) e ∙ z in cc)
-    is_some_run (x ∷ xs) n h e z = h
-
     some : Run is_graphic bs → (prefix_len is_graphic bs == 0) ≡ false → IsRight (92 ∷ bs) (p.Token k.Escaped (1 + prefix_len is_graphic bs))
     some r z = (
       92 ∷ r.0,
@@ -420,7 +424,7 @@ escaped_right bs f g =
       ap (λ z. 92 ∷ z) r.2,
       omega (arith, r.4),
       omega arith,
-      is_some_run r.0 (prefix_len is_graphic bs) r.3 r.4 z,
+      some_run is_graphic r.0 (prefix_len is_graphic bs) r.3 r.4 z,
       longest 92 bs s_backslash (92 ∷ r.0) refl (λ more rest e o. omega (arith, r.4, fits more rest e o)),
     )
 
@@ -462,13 +466,6 @@ dollar_right bs =
     fits more rest n z l e (inl h) = omega arith
     fits more rest n z l e (inr h) = within_run is_name bs more rest n e (run_first is_name more h).2 z
 
-    is_some_run : (run : Text) (n : ℕ) → list_all is_name run ≡ true → length run ≡ n → (n == 0) ≡ false → is_run is_name run ≡ true
-    is_some_run [] n h e z = absurd (let q : (0 == 0) ≡ false = ap (λ k. k == 0) e ∙ z in cc)
-    is_some_run (x ∷ xs) n h e z = h
-
-    above : (n : ℕ) → (n == 0) ≡ false → 0 < n
-    above n h = grind (arith, nat_tests)
-
     some : Run is_name bs → (prefix_len is_name bs == 0) ≡ false → IsRight (36 ∷ bs) (p.Token k.System (1 + prefix_len is_name bs))
     some r z = (
       36 ∷ r.0,
@@ -476,7 +473,7 @@ dollar_right bs =
       ap (λ z. 36 ∷ z) r.2,
       omega (arith, r.4),
       omega arith,
-      is_some_run r.0 (prefix_len is_name bs) r.3 r.4 z,
+      some_run is_name r.0 (prefix_len is_name bs) r.3 r.4 z,
       longest 36 bs s_dollar (36 ∷ r.0) refl (λ more rest e o. omega (arith, r.4, fits more rest (prefix_len is_name bs) refl (above (prefix_len is_name bs) z) e o)),
     )
 
@@ -524,9 +521,6 @@ tick_right bs =
     (λ h. (39 ∷ [], bs, refl, refl, omega arith, refl, longest 39 bs s_tick (39 ∷ []) refl (λ more rest e o. within more rest e o (is_number (base_len (39 ∷ bs)) 0 h))))
     (λ h. some (base_len (39 ∷ bs)) refl (above (base_len (39 ∷ bs)) h) (split_base (39 ∷ bs) (above (base_len (39 ∷ bs)) h)))
   where
-    above : (n : ℕ) → (n == 0) ≡ false → 0 < n
-    above n h = grind (arith, nat_tests)
-
     counted : (more rest : Text) → bs ≡ more ++ rest → IsBasedNumber (39 ∷ more) → suc (length more) ≤ base_len (39 ∷ bs)
     counted more rest e n = elim (sized_or_not 39 more n) [
       | inl s ↦ absurd (no_digit n.size n.before (n.mark ++ (n.behind ++ n.digits)) n.whole s)
@@ -564,7 +558,7 @@ tick_right bs =
 mark_true : (b : ℕ) → is_graphic b ≡ true → is_letter b ≡ false → is_digit b ≡ false → (b == 34) ≡ false → (b == 92) ≡ false → (b == 96) ≡ false → is_mark b ≡ true
 mark_true b g l d q s c = rw (g, l, d, q, s, c) refl
 
-operator_next : (b : ℕ) (more : Text) → is_operator (b ∷ more) ≡ true
+operator_next : (b : ℕ) (more : Text) → is_short (b ∷ more) ≡ true
     → ((length more ≡ 1) × (is_pair b (first more) ≡ true)) ⊎ ((length more ≡ 2) × (is_triple b (first more) (first (drop 1 more)) ≡ true))
 operator_next b [] h = absurd (cc)
 operator_next b (x ∷ []) h = inl (refl, h)
@@ -611,7 +605,7 @@ operator_right b bs s l d q u c =
     three : (bs : Text) → is_triple b (first bs) (first (drop 1 bs)) ≡ true → IsRight (b ∷ bs) (p.Token k.Operator 3)
     three [] h = absurd (omega (arith, triple_there b [] h))
     three (x ∷ []) h = absurd (omega (arith, triple_there b (x ∷ []) h))
-    three (x ∷ y ∷ ys) h = (b ∷ x ∷ y ∷ [], ys, refl, refl, omega arith, h, longest b (x ∷ y ∷ ys) s_other (b ∷ x ∷ y ∷ []) s (λ more rest e o. omega (arith, at_most more o)))
+    three (x ∷ y ∷ ys) h = (b ∷ x ∷ y ∷ [], ys, refl, refl, omega arith, triples b x y h, longest b (x ∷ y ∷ ys) s_other (b ∷ x ∷ y ∷ []) s (λ more rest e o. omega (arith, at_most more o)))
 
     at_most_two : (bs more rest : Text) → is_triple b (first bs) (first (drop 1 bs)) ≡ false → bs ≡ more ++ rest → Of s_other (b ∷ more) → length more ≤ 1
     at_most_two bs [] rest f e (inl h) = omega arith
@@ -620,7 +614,7 @@ operator_right b bs s l d q u c =
 
     two : (bs : Text) → is_pair b (first bs) ≡ true → is_triple b (first bs) (first (drop 1 bs)) ≡ false → IsRight (b ∷ bs) (p.Token k.Operator 2)
     two [] h f = absurd (omega (arith, pair_there b [] h))
-    two (x ∷ xs) h f = (b ∷ x ∷ [], xs, refl, refl, omega arith, h, longest b (x ∷ xs) s_other (b ∷ x ∷ []) s (λ more rest e o. omega (arith, at_most_two (x ∷ xs) more rest f e o)))
+    two (x ∷ xs) h f = (b ∷ x ∷ [], xs, refl, refl, omega arith, pairs b x h, longest b (x ∷ xs) s_other (b ∷ x ∷ []) s (λ more rest e o. omega (arith, at_most_two (x ∷ xs) more rest f e o)))
 
 mark_right : (b : ℕ) (bs : Text) → is_space b ≡ false → is_letter b ≡ false → is_digit b ≡ false → IsRight (b ∷ bs) (mark_piece b bs)
 unfolding mark_piece

@@ -1,6 +1,6 @@
 -- Where the tokens of a file stand.
 use Rattle.std.proofs.Common.{◌≡◌, ℕ, ◌+◌, ◌-◌, ◌<◌, ◌≤◌, cond, List, [], ◌∷◌, ◌++◌, length, drop, take, refl, ap, sym, ◌∙◌, arith}
-use Rattle.std.proofs.Math.Seq.{take-add}
+use Rattle.std.proofs.Math.Seq.{take-add, drop-append_seam, take-append_seam}
 use Rattle.std.proofs.lemmas.List.Sums.{sum_by-append}
 use Rattle.std.proofs.lemmas.List.{length-append, length-drop, drop-drop}
 use Rattle.vl_tree.specs.declared.tokens.TokenKind.{TokenKind}
@@ -9,7 +9,6 @@ use Rattle.vl_lex.specs.Bytes.{Text, is_newline}
 use Rattle.vl_lex.specs.Lexed.{Seen, Lexed, newlines, file_tokens, past_space, past_join, past_token, token_here}
 use Rattle.vl_lex.specs.Forms.{IsToken, fits_token, Cut, cut_end, cut_space, cut_join, cut_token, cut_bad, cut_unclosed}
 use Rattle.vl_lex.specs.Places.{IsSliceOf, AreSlices, InOrder, tokens_of}
-use Rattle.vl_lex.proofs.Runs.{drop_front, take_front}
 use Rattle.vl_lex.proofs.Fitting.{nothing_empty}
 use Rattle.vl_lex.proofs.Cuts.{cuts_file}
 
@@ -22,10 +21,10 @@ At here text bytes = (text ≡ drop here.at bytes) × (here.at ≤ length bytes)
 
 on_from : (here there : Cursor) (piece rest bytes : Text) → there.at ≡ here.at + length piece → there.line ≡ here.line + newlines piece → At here (piece ++ rest) bytes → At there rest bytes
 on_from here there piece rest bytes at line a =
-    let d : drop there.at bytes ≡ rest = ap (λ n. drop n bytes) at ∙ (sym (drop-drop (length piece) here.at bytes) ∙ (ap (drop (length piece)) (sym a.0) ∙ drop_front piece rest)) in
+    let d : drop there.at bytes ≡ rest = ap (λ n. drop n bytes) at ∙ (sym (drop-drop (length piece) here.at bytes) ∙ (ap (drop (length piece)) (sym a.0) ∙ drop-append_seam piece rest)) in
     let l : length (piece ++ rest) ≡ length bytes - here.at = ap length a.0 ∙ length-drop here.at bytes in
     let t : take there.at bytes ≡ take here.at bytes ++ piece =
-    ap (λ n. take n bytes) at ∙ (take-add here.at (length piece) bytes ∙ ap (λ z. take here.at bytes ++ z) (ap (take (length piece)) (sym a.0) ∙ take_front piece rest)) in
+    ap (λ n. take n bytes) at ∙ (take-add here.at (length piece) bytes ∙ ap (λ z. take here.at bytes ++ z) (ap (take (length piece)) (sym a.0) ∙ take-append_seam piece rest)) in
     let n : newlines (take there.at bytes) ≡ newlines (take here.at bytes) + newlines piece = ap newlines t ∙ newlines_more (take here.at bytes) piece in
     (sym d, omega (arith, length-append piece rest), omega (arith, line, a.2, n))
 
@@ -36,7 +35,7 @@ slice_here file here kind piece rest bytes h a =
     record {
       there = omega arith;
       within = omega (arith, length-append piece rest);
-      text = sym (ap (λ z. take z (drop here.at bytes)) n ∙ (ap (take (length piece)) (sym a.0) ∙ take_front piece rest));
+      text = sym (ap (λ z. take z (drop here.at bytes)) n ∙ (ap (take (length piece)) (sym a.0) ∙ take-append_seam piece rest));
       line = a.2;
     }
 

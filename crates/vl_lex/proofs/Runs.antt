@@ -1,5 +1,5 @@
 -- Texts that begin with a run of bytes of one kind, or with white space.
-use Rattle.std.proofs.Common.{◌≡◌, ℕ, zero, suc, ◌+◌, ◌≤◌, ◌==◌, Bool, true, false, ◌&&◌, not, if◌then◌else◌, [], ◌∷◌, ◌++◌, length, drop, take, refl, ap, sym, ◌∙◌, subst, arith}
+use Rattle.std.proofs.Common.{◌≡◌, ℕ, zero, suc, ◌+◌, ◌≤◌, ◌==◌, Bool, true, false, ◌&&◌, not, if◌then◌else◌, [], ◌∷◌, ◌++◌, length, refl, ap, sym, ◌∙◌, subst, arith}
 use Rattle.std.specs.List.{prefix_len, list_all}
 use Rattle.std.proofs.lemmas.Bool.Decides.{nat_tests}
 use Rattle.vl_lex.specs.Bytes.{Text, first, is_space}
@@ -55,14 +55,6 @@ run_ends p (x ∷ xs) rest h e =
     let b = both (p x) (list_all p xs) h in
     let k : prefix_len p (x ∷ (xs ++ rest)) ≡ 1 + prefix_len p (xs ++ rest) = rw b.0 refl in
     omega (arith, run_ends p xs rest b.1 e)
-
-pub drop_front : (front rest : Text) → drop (length front) (front ++ rest) ≡ rest
-drop_front [] rest = refl
-drop_front (x ∷ xs) rest = drop_front xs rest
-
-pub take_front : (front rest : Text) → take (length front) (front ++ rest) ≡ front
-take_front [] rest = refl
-take_front (x ∷ xs) rest = ap (λ z. x ∷ z) (take_front xs rest)
 
 pub space_blank : (b : ℕ) (bs : Text) → is_space b ≡ true → blanks 0 (b ∷ bs) ≡ suc (blanks 0 bs)
 unfolding blanks

@@ -33,10 +33,6 @@ then_same : {A B : Type 0} (o p : Reached A) (f g : A → Reached B) → Same o 
 then_same (Ok a) p f g s t n = ap (λ z. and_then z g) (s (λ name e. cc)) ∙ t a refl n
 then_same (Err e) p f g s t n = ap (λ z. and_then z g) (s (λ name q. n name (ap (λ z. and_then z f) q)))
 
-on_if : {S : Type 0} (c : Bool) (x y u v : Reached S) → Same x u → Same y v → Same (if c then x else y) (if c then u else v)
-on_if true x y u v s t = s
-on_if false x y u v s t = t
-
 split : {A : Type 0} (c : Bool) (x y : Option A) (i : A) → (if c then x else y) ≡ Some i → ((c ≡ true) × (x ≡ Some i)) ⊎ ((c ≡ false) × (y ≡ Some i))
 split true x y i e = inl (refl, e)
 split false x y i e = inr (refl, e)

@@ -25,18 +25,7 @@ use Rattle.vl_lex.specs.Walk.{SState, with_gate, with_implicit, with_listed, mos
 use Rattle.vl_lex.specs.Places.{IsSliceOf, Each, AreSlices, AreSlicesOf, tokens_of}
 use Rattle.vl_lex.proofs.Expands.{in_table}
 use Rattle.vl_lex.proofs.Places.{file_slices}
-
-abbrev pub Holds : {S : Type 0} → (S → Type 0) → Reached S → Type 0
-Holds R (Ok a) = R a
-Holds R (Err e) = Unit {0}
-
-then_holds : {A B : Type 0} (R : A → Type 0) (S : B → Type 0) (o : Reached A) (f : A → Reached B) → Holds R o → ((a : A) → R a → Holds S (f a)) → Holds S (and_then o f)
-then_holds R S (Ok a) f g k = k a g
-then_holds R S (Err e) f g k = tt
-
-either : {A : Type 0} (R : A → Type 0) (c : Bool) (x y : Reached A) → Holds R x → Holds R y → Holds R (if c then x else y)
-either R true x y g k = g
-either R false x y g k = k
+use Rattle.vl_lex.proofs.Outcomes.{Holds, then_holds, either}
 
 each_append : (P : Seen → Type 0) (xs ys : List Seen) → Each P xs → Each P ys → Each P (xs ++ ys)
 each_append P [] ys g k = k

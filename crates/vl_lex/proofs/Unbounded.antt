@@ -8,20 +8,17 @@ use Rattle.vl_lex.specs.Gate.{SGate, Reached, and_then, fed}
 use Rattle.vl_lex.specs.Macros.{Table, updated, directive_name, is_directive, body_of, marked, fold_tokens, body_token, expanded}
 use Rattle.vl_lex.specs.Expansion.{Expands, body_ends, goes_on, is_halted, body_goes, body_halts, no_macro, Member, Covers}
 use Rattle.vl_lex.proofs.Expands.{in_table, enters, refuses, feeds}
+use Rattle.vl_lex.proofs.Runs.{on_if}
 
 without : Text → List Text → List Text
 without name [] = []
 without name (n ∷ ns) = if bytes_eq name n then without name ns else n ∷ without name ns
 
-by_test : {X : Type 0} (P : X → Type 0) (t : Bool) (x y : X) → (t ≡ true → P x) → (t ≡ false → P y) → P (if t then x else y)
-by_test P true x y f g = f refl
-by_test P false x y f g = g refl
-
 no_more : (name : Text) (ns : List Text) → length (without name ns) ≤ length ns
 unfolding without
 no_more name [] = omega arith
 no_more name (n ∷ ns) =
-    by_test (λ z. length z ≤ suc (length ns)) (bytes_eq name n) (without name ns) (n ∷ without name ns) (λ e. omega (arith, no_more name ns)) (λ e. omega (arith, no_more name ns))
+    on_if (λ z. length z ≤ suc (length ns)) (bytes_eq name n) (without name ns) (n ∷ without name ns) (λ e. omega (arith, no_more name ns)) (λ e. omega (arith, no_more name ns))
 
 same_text : (a b : Text) → a ≡ b → bytes_eq a b ≡ true
 same_text a b e = (bytes_eq-Decides a b).1 e
@@ -31,13 +28,13 @@ unfolding without
 fewer name [] m = absurd m
 fewer name (n ∷ ns) (inl e) = let t = same_text name n e in let k = no_more name ns in rw t (omega arith)
 fewer name (n ∷ ns) (inr m) =
-    by_test (λ z. suc (length z) ≤ suc (length ns)) (bytes_eq name n) (without name ns) (n ∷ without name ns) (λ e. omega (arith, no_more name ns)) (λ e. omega (arith, fewer name ns m))
+    on_if (λ z. suc (length z) ≤ suc (length ns)) (bytes_eq name n) (without name ns) (n ∷ without name ns) (λ e. omega (arith, no_more name ns)) (λ e. omega (arith, fewer name ns m))
 
 stays : (name q : Text) (ns : List Text) → bytes_eq name q ≡ false → Member q ns → Member q (without name ns)
 unfolding without
 stays name q [] f m = absurd m
 stays name q (n ∷ ns) f (inl e) = let t : bytes_eq name n ≡ false = ap (bytes_eq name) (sym e) ∙ f in rw t (inl e)
-stays name q (n ∷ ns) f (inr m) = by_test (λ z. Member q z) (bytes_eq name n) (without name ns) (n ∷ without name ns) (λ e. stays name q ns f m) (λ e. inr (stays name q ns f m))
+stays name q (n ∷ ns) f (inr m) = on_if (λ z. Member q z) (bytes_eq name n) (without name ns) (n ∷ without name ns) (λ e. stays name q ns f m) (λ e. inr (stays name q ns f m))
 
 -- inside a macro's body one macro fewer is defined
 narrows : (table : Table) (name : Text) (ns : List Text) → Covers table ns → Covers (updated table name None) (without name ns)

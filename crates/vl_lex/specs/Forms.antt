@@ -1,11 +1,11 @@
 -- The texts that are white space, comments and tokens (IEEE 1364-2005, section 3), and a file as these one after the other.
-use Rattle.std.specs.Prelude.{◌≡◌, ℕ, ◌<◌, ◌≤◌, ◌==◌, Bool, true, false, ◌&&◌, not, if◌then◌else◌, ◌⊎◌, [], ◌∷◌, ◌++◌, length}
-use Rattle.std.specs.List.{list_all}
+use Rattle.std.specs.Prelude.{◌≡◌, ℕ, ◌<◌, ◌≤◌, ◌==◌, Bool, true, false, ◌&&◌, not, if◌then◌else◌, ◌⊎◌, List, [], ◌∷◌, ◌++◌, length, codes}
+use Rattle.std.specs.Str.{bytes_eq}
+use Rattle.std.specs.List.{list_all, list_any}
 use Rattle.vl_tree.specs.declared.tokens.TokenKind.{TokenKind}
 use Rattle.vl_tree.specs.declared.tokens.TokenKind.TheVariants as k
 use Rattle.vl_lex.specs.declared.lexer.Cursor.{Cursor}
 use Rattle.vl_lex.specs.Bytes.{Text, other_than_newline, is_space, is_digit, is_letter, is_name, is_decimal, is_based, is_graphic, is_sign, is_base}
-use Rattle.vl_lex.specs.Pieces.{is_pair, is_triple}
 use Rattle.vl_lex.specs.Lexed.{Lexed, nothing, flawed, with_tokens, past_space, past_join, past_token, token_here, bad_byte, unclosed}
 
 -- a byte of one kind, then any number of another
@@ -94,11 +94,32 @@ pub record IsBasedNumber (text : Text) : Type 0 where
   pub blank_behind : IsBlank behind
   pub valued : IsValue behind digits
 
--- a text of two or three bytes that is an operator
-abbrev pub is_operator : Text → Bool
-is_operator (a ∷ b ∷ []) = is_pair a b
-is_operator (a ∷ b ∷ c ∷ []) = is_triple a b c
-is_operator _ = false
+-- the operators of two and three bytes
+abbrev pub operators : List Text
+operators =
+    codes "<<<" ∷
+    codes ">>>" ∷
+    codes "===" ∷
+    codes "!==" ∷
+    codes "<<" ∷
+    codes ">>" ∷
+    codes "<=" ∷
+    codes ">=" ∷
+    codes "==" ∷
+    codes "!=" ∷
+    codes "&&" ∷
+    codes "||" ∷
+    codes "**" ∷
+    codes "~&" ∷
+    codes "~|" ∷
+    codes "~^" ∷
+    codes "^~" ∷
+    codes "+:" ∷
+    codes "-:" ∷
+    []
+
+unfoldable pub is_operator : Text → Bool
+is_operator text = list_any (bytes_eq text) operators
 
 -- a printed byte that begins no name, number or string, and is no `\` and no backquote
 abbrev pub is_mark : ℕ → Bool
