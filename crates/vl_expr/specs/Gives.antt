@@ -1,5 +1,5 @@
 -- What a function that reads a part of the grammar ensures.
-use Rattle.std.specs.Prelude.{◌≡◌, ℕ, Some, None, Result, Ok, Err}
+use Rattle.std.specs.Prelude.{◌≡◌, Some, None, Result, Ok, Err}
 use Rattle.vl_expr.specs.declared.errors.ReadError.{ReadError}
 use Rattle.vl_expr.specs.declared.errors.ReadError.TheVariants.{NoMemory, Refused}
 use Rattle.vl_grammar.specs.Read.{Tokens, Outcome}
