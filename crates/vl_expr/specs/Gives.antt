@@ -9,3 +9,9 @@ abbrev pub Gives : {X A : Type 0} → (X → A × Tokens) → Result X ReadError
 Gives view (Ok x) outcome = outcome ≡ Some (view x)
 Gives view (Err NoMemory) outcome = Unit {0}
 Gives view (Err Refused) outcome = outcome ≡ None
+
+-- this value and these tokens behind it, unless memory fails
+abbrev pub IsGiven : {X A : Type 0} → (X → A × Tokens) → A → Tokens → Result X ReadError → Type 0
+IsGiven view value rest (Ok x) = view x ≡ (value, rest)
+IsGiven view value rest (Err NoMemory) = Unit {0}
+IsGiven view value rest (Err Refused) = ⊥
