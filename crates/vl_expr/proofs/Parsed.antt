@@ -1,7 +1,7 @@
 -- What an answer of the reader says of the tokens between two places.
-use Rattle.std.proofs.Common.{◌≡◌, ◌≢◌, ℕ, suc, ◌-◌, ◌<◌, ◌≤◌, length, take, drop, inl, inr, refl, subst, arith, Bool, true, sym, ◌∙◌}
+use Rattle.std.proofs.Common.{◌≡◌, ◌≢◌, ℕ, suc, ◌-◌, ◌<◌, ◌≤◌, length, take, drop, inl, inr, refl, subst, arith, Bool, true, sym, ◌∙◌, Option, Some, None, ap}
 use Rattle.std.proofs.lemmas.Bool.{cases_lt, eqb-true}
-use Rattle.std.specs.Prelude.{Result, Ok, Err}
+use Rattle.std.specs.Prelude.{Result, Err, IfOk, Ok}
 use Rattle.vl_tree.specs.declared.words.Word.{Word}
 use Rattle.vl_tree.specs.declared.words.Word.TheVariants as word
 use Rattle.vl_tree.specs.declared.expressions.Expr.{Expr}
@@ -9,13 +9,16 @@ use Rattle.vl_grammar.specs.declared.roles.Role.{Role}
 use Rattle.vl_grammar.specs.declared.roles.Role.TheVariants as role
 use Rattle.vl_grammar.specs.Roles.{role_of, binds}
 use Rattle.vl_grammar.specs.Read.{Tokens, expr}
-use Rattle.vl_grammar.specs.Spells.{Ends}
+use Rattle.vl_grammar.specs.Spells.{Whole, Ends}
 use Rattle.vl_grammar.specs.Longest.{Stands, NoneBegins}
 use Rattle.vl_grammar.proofs.Longest.{front_refused, none_empty}
 use Rattle.vl_expr.specs.declared.errors.ReadError.{ReadError}
 use Rattle.vl_expr.specs.declared.errors.ReadError.TheVariants.{NoMemory, Refused}
 use Rattle.vl_expr.specs.Ends.{closes}
-use Rattle.vl_expr.specs.Gives.{Gives}
+use Rattle.vl_expr.specs.Gives.{Gives, IsGiven}
+use Rattle.vl_tree.specs.Words.{next}
+use Rattle.vl_grammar.proofs.Sound.{spelled}
+use Rattle.vl_grammar.proofs.Again.{whole_again}
 
 pub error_none : {X : Type 0} (view : X → Expr × Tokens) (ts : Tokens) (at end : ℕ) (error : ReadError)
     → Gives view (Err error) (expr (suc (length (take (end - at) (drop at ts)))) 0 (take (end - at) (drop at ts)))
@@ -69,3 +72,26 @@ no_end_left ts at end more le t n d = elim (cases_lt end n) [
 -- none begins where no token stands
 pub none_behind : (ts : Tokens) (at : ℕ) → length ts ≤ at → NoneBegins ts at
 none_behind ts at le t n d = none_empty ts at t n (omega (arith, d.within)) d
+
+-- what is given spells the tokens up to those behind it
+pub given_spells : {X : Type 0} (view : X → Expr × Tokens) (ts : Tokens) (f : ℕ) (r : Result X ReadError) → Gives view r (expr f 0 ts)
+    → IfOk r (λ x. Whole (view x).0 ts (view x).1)
+given_spells view ts f (Ok x) g = spelled f (view x).0 ts (view x).1 g
+given_spells view ts f (Err error) g = tt
+
+abbrev pair_or : Expr × Tokens → Option (Expr × Tokens) → Expr × Tokens
+pair_or p (Some q) = q
+pair_or p None = p
+
+-- a tree behind which no expression goes on is the one that is given
+pub only_given : {X : Type 0} (view : X → Expr × Tokens) (ts : Tokens) (f : ℕ) (r : Result X ReadError) → f ≡ suc (length ts) → Gives view r (expr f 0 ts)
+    → (t : Expr) (rest : Tokens) → Whole t ts rest → Ends (next rest) → IsGiven view t rest r
+only_given view ts f (Ok x) is g t rest d ends =
+    let same : ◌≡◌ {A = Option (Expr × Tokens)} (Some (view x)) (Some (t, rest)) =
+    sym g ∙ (ap (λ n. expr n 0 ts) is ∙ whole_again d (length ts) (omega arith) ends) in
+    ap (pair_or (t, rest)) same
+only_given view ts f (Err NoMemory) is g t rest d ends = tt
+only_given view ts f (Err Refused) is g t rest d ends =
+    let same : ◌≡◌ {A = Option (Expr × Tokens)} None (Some (t, rest)) =
+    sym g ∙ (ap (λ n. expr n 0 ts) is ∙ whole_again d (length ts) (omega arith) ends) in
+    cc

@@ -7,7 +7,7 @@ ghost use Rattle.vl_grammar.specs.Spells.{Whole, Ends};
 ghost use Rattle.vl_grammar.specs.Longest.{Stands, IsLongest, NoneBegins};
 ghost use Rattle.vl_grammar.specs.Roles as spec_roles;
 ghost use Rattle.vl_expr.specs.Ends.{closes};
-ghost use Rattle.vl_expr.specs.Gives.{Gives};
+ghost use Rattle.vl_expr.specs.Gives.{Gives, IsGiven};
 ghost use Rattle.vl_expr.specs.Parsed.{place_at as spec_place_at, Refuses};
 
 use crate::errors::ReadError;
@@ -17,10 +17,13 @@ use std::alloc::Global;
 use vl_grammar::{Role, binds, role_of};
 use vl_tree::{Code, Expr, Fault, Place, Stop, Token, TokenList, Word, next_word};
 
-/// The expression at the head of some tokens, and the tokens behind it: exactly what the reader of the grammar gives. It refuses where that one does,
-/// which may be behind a shorter expression. Linear in what is read; takes stack for each bracket and operator that is open.
+/// The expression at the head of some tokens, and the tokens behind it: exactly what the reader of the grammar gives (`read`). So it spells the tokens that it takes
+/// (`spelled`), and an expression behind which none goes on is the one that is given (`only`). It refuses where the reader does, which may be behind a shorter
+/// expression. Linear in what is read; takes stack for each bracket, choice and unary operator that is open.
 pub fn read_expr<'t, 'f>(alloc: Global, tokens: &'t [Token<'f>]) -> Read<'t, 'f, Expr<'f>>
-    ensures { Gives (λ x. (x.0, x.1.now)) result (spec.expr (suc (length tokens.now)) 0 tokens.now) }
+    ensures read { Gives (λ x. (x.0, x.1.now)) result (spec.expr (suc (length tokens.now)) 0 tokens.now) }
+    ensures spelled { IfOk result (λ x. Whole x.0 tokens.now x.1.now) }
+    ensures only { (t : tree.Expr) (rest : spec.Tokens) → Whole t tokens.now rest → Ends (next rest) → IsGiven (λ x. (x.0, x.1.now)) t rest result }
 {
     expr(alloc, tokens, tokens.len() + 1, 0)
 }

@@ -1,5 +1,5 @@
 -- The word of each role.
-use Rattle.std.proofs.Common.{◌≡◌, ◌≢◌, ℕ, ◌≤◌, refl, lit≤}
+use Rattle.std.proofs.Common.{◌≡◌, ◌≤◌, refl, lit≤}
 use Rattle.vl_tree.specs.declared.words.Word.{Word}
 use Rattle.vl_tree.specs.declared.words.Word.TheVariants as word
 use Rattle.vl_grammar.specs.declared.roles.Role.TheVariants as role

@@ -1,4 +1,4 @@
-use Rattle.std.proofs.Common.{◌≡◌, ℕ, suc, ◌-◌, ap, arith}
+use Rattle.std.proofs.Common.{◌≡◌, suc, ◌-◌, ap, arith}
 use Rattle.vl_grammar.specs.Read.{expr}
 use Rattle.vl_expr.proofs.Turns.{deeper}
 use Rattle.vl_expr.proofs.grammar.+expr.Goals as goal

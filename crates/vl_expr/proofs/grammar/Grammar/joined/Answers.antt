@@ -1,6 +1,6 @@
 use Rattle.std.proofs.Common.{rules, arith}
 use Rattle.std.proofs.lemmas.Grind.{common_steps}
-use Rattle.vl_grammar.specs.Read.{expr, joined, climb}
+use Rattle.vl_grammar.specs.Read.{expr, climb}
 use Rattle.vl_expr.proofs.Turns.{one_more, no_more}
 use Rattle.vl_expr.proofs.grammar.Grammar.joined.Goals as goal
 

@@ -1,6 +1,6 @@
 use Rattle.std.proofs.Common.{rules, arith}
 use Rattle.std.proofs.lemmas.Grind.{common_steps}
-use Rattle.vl_grammar.specs.Read.{expr, list_after, list_from}
+use Rattle.vl_grammar.specs.Read.{expr, list_from}
 use Rattle.vl_expr.proofs.Turns.{one_more, no_more}
 use Rattle.vl_expr.proofs.grammar.Grammar.list_after.Goals as goal
 
