@@ -77,4 +77,4 @@ module _ (low high : List Bool) (n : ℕ) (e : n ≡ length low + length high) w
       same_lists_bits (placed (pos (length low)) high (extended false n low)) (low ++ high)
       (length_placed (pos (length low)) high (extended false n low) ∙ m ∙ e ∙ sym (length-append low high))
       (λ k l. (let within : k < n = omega (arith, l, length_placed (pos (length low)) high (extended false n low), m) in
-        placed_at (pos (length low)) high (extended false n low) k (omega (arith, within, m)) ∙ sym (bits k within)))
+      placed_at (pos (length low)) high (extended false n low) k (omega (arith, within, m)) ∙ sym (bits k within)))

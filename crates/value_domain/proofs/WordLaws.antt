@@ -79,8 +79,8 @@ module _ {S V : Type 0} (m : Meaning S V) where
     reads_as = λ v.
         o.reads_as v
         ∙ ap₂ (λ x y. x ++ y)
-          (w.reads_as v ∙ ap together (kept_words back (tail_all front back (subst (All (IsWord m d0)) (sym split) all)) v))
-          (l.same high.value v h.is_word.is_one ∙ h.reads_as v)
+        (w.reads_as v ∙ ap together (kept_words back (tail_all front back (subst (All (IsWord m d0)) (sym split) all)) v))
+        (l.same high.value v h.is_word.is_one ∙ h.reads_as v)
         ∙ sym (together_map_append (λ (w : Word V). m.reads d0 v w.value) front back)
         ∙ ap (λ ws. together (map (λ (w : Word V). m.reads d0 v w.value) ws)) split;
   }

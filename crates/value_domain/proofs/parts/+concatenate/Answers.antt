@@ -14,11 +14,22 @@ concatenate-requires-2 g t c κs within =
     let some = c.requires.some in
     let less : half < length words = omega arith in
     let long = w.back_length words half less in
-    let d = c.decreases in
-    (omega arith, (within.0, (within.1,
-    (omega arith,
-    (subst (All (IsWord g.D.Domain.meaning c.concatenate.new.domain)) (sym (take_rest words half)) (w.words_later g.D.Domain.meaning c.args.domain.now c.concatenate.new.domain (drop half words) c.concatenate.ensures.kept (All-drop (IsWord g.D.Domain.meaning c.args.domain.now) half words c.requires.values)),
-    w.back_fits words half c.requires.most)))))
+    let d = c.decreases in (
+      omega arith,
+      (
+        within.0,
+        (
+          within.1,
+          (
+            omega arith,
+            (
+              subst (All (IsWord g.D.Domain.meaning c.concatenate.new.domain)) (sym (take_rest words half)) (w.words_later g.D.Domain.meaning c.args.domain.now c.concatenate.new.domain (drop half words) c.concatenate.ensures.kept (All-drop (IsWord g.D.Domain.meaning c.args.domain.now) half words c.requires.values)),
+              w.back_fits words half c.requires.most,
+            ),
+          ),
+        ),
+      ),
+    )
 
 pub join-requires-clause-most : goal.join-requires-clause-most
 join-requires-clause-most g t c =
@@ -29,5 +40,5 @@ returns-clause-made g t c =
     let words = c.args.words.now in
     let half = length words / 2 in
     IfOk-weaker c.join.result _ _ (λ r made. w.halves_made g.D.Domain.meaning c.args.domain.now c.concatenate.new.domain c.concatenate-2.new.domain c.join.new.domain
-      words (take half words) (take (length words - half) (drop half words)) c.in_ok-high.high c.in_ok-low.low r (w.halves_split words half) c.requires.values
-      c.concatenate.ensures.kept c.concatenate-2.ensures.kept c.in_ok-high.ensures.made c.in_ok-low.ensures.made made) c.join.ensures.made
+    words (take half words) (take (length words - half) (drop half words)) c.in_ok-high.high c.in_ok-low.low r (w.halves_split words half) c.requires.values
+    c.concatenate.ensures.kept c.concatenate-2.ensures.kept c.in_ok-high.ensures.made c.in_ok-low.ensures.made made) c.join.ensures.made

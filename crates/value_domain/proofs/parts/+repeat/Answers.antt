@@ -10,5 +10,5 @@ join-requires-clause-most g t c =
 pub returns-clause-made : goal.returns-clause-made
 returns-clause-made g t c =
     IfOk-weaker c.join.result _ _ (λ r made. w.repeat_made g.D.Domain.meaning c.args.domain.now c.repeat.new.domain c.repeat-2.new.domain c.join.new.domain
-      c.args.count (c.args.count / 2) (c.args.count - c.args.count / 2) c.args.part.now c.in_ok-low.low c.in_ok-high.high r (omega arith) c.requires.value
-      c.repeat.ensures.kept c.repeat-2.ensures.kept c.in_ok-low.ensures.made c.in_ok-high.ensures.made made) c.join.ensures.made
+    c.args.count (c.args.count / 2) (c.args.count - c.args.count / 2) c.args.part.now c.in_ok-low.low c.in_ok-high.high r (omega arith) c.requires.value
+    c.repeat.ensures.kept c.repeat-2.ensures.kept c.in_ok-low.ensures.made c.in_ok-high.ensures.made made) c.join.ensures.made
