@@ -8,3 +8,4 @@ pub mod EnvLaws
 pub mod TermLaws
 pub mod LeastNeeds
 pub mod FormedLaws
+pub mod SizeLaws

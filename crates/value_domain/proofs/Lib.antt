@@ -2,3 +2,4 @@ pub mod LengthLaws
 pub mod LoopLaws
 pub mod PlaceLaws
 pub mod WordLaws
+pub mod MoveLaws

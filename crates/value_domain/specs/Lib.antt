@@ -1,3 +1,4 @@
 pub mod Meaning
 pub mod Lengths
 pub mod Words
+pub mod Moved

@@ -5,11 +5,13 @@ mod domain;
 mod operators;
 mod parts;
 mod plain;
+mod variable;
 mod words;
 
 pub use domain::Domain;
 pub use parts::{Word, concatenate, guarded, join, matched, narrowed, repeat};
 pub use plain::BitsDomain;
+pub use variable::{Start, place_at, select_at};
 
 #[cfg(test)]
 mod tests;

@@ -1,0 +1,5 @@
+pub mod PlaceLaws
+pub mod DomainLaws
+pub mod AimLaws
+pub mod StandingLaws
+pub mod StateLaws
