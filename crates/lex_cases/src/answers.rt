@@ -1,6 +1,6 @@
 use std::alloc::{AllocError, Global};
 use vl_lex::Walk;
-use vl_tree::{Place, Stop, Token};
+use vl_tree::{Place, Stop, Token, TokenList};
 
 // The most tokens that are written out.
 const MOST_WRITTEN: usize = 40;
@@ -47,6 +47,29 @@ fn put_place(alloc: Global, out: &mut Vec<u8>, place: &Place) -> Result<(), Allo
     }
 }
 
+fn put_stop(alloc: Global, out: &mut Vec<u8>, stop: &Stop) -> Result<(), AllocError> {
+    match stop {
+        Stop::Fault(fault) => {
+            out.extend_from_slice(fault.code.number())?;
+            put_place(alloc, out, &fault.place)
+        }
+        Stop::Limit(code) => out.extend_from_slice(code.number()),
+        Stop::NoMemory => out.extend_from_slice(b"no memory"),
+    }
+}
+
+/// What the lexer gives of a file, by itself.
+pub fn put_lexed(
+    alloc: Global,
+    out: &mut Vec<u8>,
+    answer: &Result<TokenList<'_>, Stop>,
+) -> Result<(), AllocError> {
+    match answer {
+        Ok(tokens) => put_tokens(alloc, out, tokens.as_slice()),
+        Err(stop) => put_stop(alloc, out, stop),
+    }
+}
+
 /// `ok`, the number of kept tokens and the tokens where they are few; a code, with the file and the line of a fault; or `need` and the name of a file.
 pub fn put_answer(
     alloc: Global,
@@ -59,11 +82,6 @@ pub fn put_answer(
             out.extend_from_slice(b"need ")?;
             out.extend_from_slice(name.as_slice())
         }
-        Err(Stop::Fault(fault)) => {
-            out.extend_from_slice(fault.code.number())?;
-            put_place(alloc, out, &fault.place)
-        }
-        Err(Stop::Limit(code)) => out.extend_from_slice(code.number()),
-        Err(Stop::NoMemory) => out.extend_from_slice(b"no memory"),
+        Err(stop) => put_stop(alloc, out, stop),
     }
 }

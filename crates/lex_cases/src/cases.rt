@@ -1,11 +1,11 @@
 ghost use Rattle.std.specs.Prelude.{◌≡◌, nat_le, ◌≤◌, ◌<◌, ◌^◌, ℕ, true, length, slice_index_or};
 ghost use Rattle.bits_core.specs.declared.names.File.{File};
 
-use crate::answers::put_answer;
+use crate::answers::{put_answer, put_lexed};
 use bits_core::{File, Items, NameList};
 use std::alloc::{AllocError, Global};
 use std::mem;
-use vl_lex::{Files, preprocess};
+use vl_lex::{Files, lex, preprocess};
 
 const MOST_BYTES: usize = 16_777_216;
 
@@ -159,8 +159,23 @@ impl Case {
         self.run(named.unwrap_or(all), Items::of(defines))
     }
 
+    // What the lexer gives of the file that is open; the case is then empty.
+    fn lex_line(&mut self) -> Result<Vec<u8>, AllocError> {
+        let mut out = mem::replace(&mut self.title, Vec::new(self.alloc));
+        let bytes = mem::replace(&mut self.bytes, Vec::new(self.alloc));
+        self.name = Vec::new(self.alloc);
+        self.files = Vec::new(self.alloc);
+        if bytes.len() <= MOST_BYTES {
+            let answer = lex(self.alloc, 0, bytes.as_slice());
+            put_lexed(self.alloc, &mut out, &answer)?;
+        } else {
+            out.extend_from_slice(b"no case")?;
+        }
+        Ok(out)
+    }
+
     /// A line of a table: `@case` and a title, `@file` and a name, `@hex` and bytes of the file, `@lines` or `@files` with a number and a text, or a line of the file that is open.
-    /// `@run` gives the answer; behind it stand how many of the files are named, where not all are, and the macros that are defined.
+    /// `@lex` gives what the lexer makes of that file by itself, `@run` the answer for all; behind it stand how many of the files are named, where not all are, and the macros that are defined.
     pub fn take_line(&mut self, line: &str) -> Result<Option<Vec<u8>>, AllocError> {
         if let Some(title) = line.strip_prefix("@case ") {
             self.title = title.as_bytes().to_vec(self.alloc)?;
@@ -174,6 +189,8 @@ impl Case {
             self.take_lines(words)?;
         } else if let Some(words) = line.strip_prefix("@files ") {
             self.take_files(words)?;
+        } else if line == "@lex" {
+            return Ok(Some(self.lex_line()?));
         } else if let Some(words) = line.strip_prefix("@run") {
             return Ok(Some(self.run_line(words)?));
         } else {

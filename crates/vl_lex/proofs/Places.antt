@@ -1,12 +1,15 @@
 -- Where the tokens of a file stand.
-use Rattle.std.proofs.Common.{◌≡◌, ℕ, ◌+◌, ◌-◌, ◌<◌, ◌≤◌, cond, List, [], ◌∷◌, ◌++◌, length, drop, take, refl, ap, sym, ◌∙◌, arith}
+use Rattle.std.proofs.Common.{◌≡◌, ℕ, ◌+◌, ◌-◌, ◌<◌, ◌≤◌, cond, List, [], ◌∷◌, ◌++◌, length, drop, take, map, refl, ap, sym, ◌∙◌, subst, arith}
+use Rattle.std.specs.Prelude.{IfOk, Result, Ok, Err}
+use Rattle.vl_tree.specs.declared.tokens.Token.{Token}
+use Rattle.vl_tree.specs.declared.faults.Stop.{Stop}
 use Rattle.std.proofs.Math.Seq.{take-add, drop-append_seam, take-append_seam}
 use Rattle.std.proofs.lemmas.List.Sums.{sum_by-append}
 use Rattle.std.proofs.lemmas.List.{length-append, length-drop, drop-drop}
 use Rattle.vl_tree.specs.declared.tokens.TokenKind.{TokenKind}
 use Rattle.vl_lex.specs.declared.lexer.Cursor.{Cursor}
 use Rattle.vl_lex.specs.Bytes.{Text, is_newline}
-use Rattle.vl_lex.specs.Lexed.{Seen, Lexed, newlines, file_tokens, past_space, past_join, past_token, token_here}
+use Rattle.vl_lex.specs.Lexed.{Seen, Lexed, newlines, file_tokens, past_space, past_join, past_token, token_here, view, Lexes}
 use Rattle.vl_lex.specs.Forms.{IsToken, fits_token, Cut, cut_end, cut_space, cut_join, cut_token, cut_bad, cut_unclosed}
 use Rattle.vl_lex.specs.Places.{IsSliceOf, AreSlices, InOrder, tokens_of}
 use Rattle.vl_lex.proofs.Fitting.{nothing_empty}
@@ -70,3 +73,11 @@ file_slices file text = (file_places file text).0
 
 pub file_order : (file : ℕ) (text : Text) → InOrder 0 (tokens_of (file_tokens file text).tokens)
 file_order file text = (file_places file text).1
+
+pub lexed_slices : (r : Result (List Token) Stop) (file : ℕ) (bytes : Text) → Lexes r (file_tokens file bytes) → IfOk r (λ tokens. AreSlices file bytes (map view tokens))
+lexed_slices (Ok tokens) file bytes h = subst (AreSlices file bytes) (sym h.0) (file_slices file bytes)
+lexed_slices (Err e) file bytes h = tt
+
+pub lexed_order : (r : Result (List Token) Stop) (file : ℕ) (bytes : Text) → Lexes r (file_tokens file bytes) → IfOk r (λ tokens. InOrder 0 (map view tokens))
+lexed_order (Ok tokens) file bytes h = subst (InOrder 0) (sym h.0) (file_order file bytes)
+lexed_order (Err e) file bytes h = tt

@@ -1,4 +1,5 @@
-ghost use Rattle.std.specs.Prelude.{◌≡◌, ◌<◌, ◌≤◌, ◌+◌, ◌-◌, ◌^◌, ◌==◌, length, take, map, count_by};
+ghost use Rattle.std.specs.Prelude.{◌≡◌, ◌<◌, ◌≤◌, ◌+◌, ◌-◌, ◌^◌, ◌==◌, length, take, map, count_by, IfOk};
+ghost use Rattle.vl_lex.specs.Places.{AreSlices, InOrder};
 ghost use Rattle.vl_lex.specs.Lexed as spec;
 ghost use Rattle.vl_tree.specs.declared.faults.Place.TheVariants as place;
 ghost use Rattle.vl_tree.specs.declared.faults.Stop.TheVariants as stop;
@@ -149,7 +150,9 @@ pub fn lex_rows<'f>(alloc: Global, file: u32, bytes: &'f [u8]) -> Result<Items<L
 /// a comment or a string that does not end is `Unclosed` at the line where it begins; the first of these counts. Linear in the bytes.
 pub fn lex<'f>(alloc: Global, file: u32, bytes: &'f [u8]) -> Result<TokenList<'f>, Stop>
     requires { length bytes.now ≤ 2 ^ 24 }
-    ensures { spec.Lexes result (spec.file_tokens file bytes.now) }
+    ensures tokens { spec.Lexes result (spec.file_tokens file bytes.now) }
+    ensures slices { IfOk result (λ tokens. AreSlices file bytes.now (map spec.view tokens)) }
+    ensures order { IfOk result (λ tokens. InOrder 0 (map spec.view tokens)) }
 {
     match lex_rows(alloc, file, bytes) {
         Ok(lined) => bare_tokens(alloc, &lined),
