@@ -3,6 +3,8 @@
 
 mod aims;
 mod frame;
+mod laws;
 
 pub use aims::{Spot, Target, one_target, write_all};
 pub use frame::{copy_first, copy_guard, enter, locals_of, signal_of, signals_of, signed_by, zero};
+pub use laws::writes_are_assignments;
