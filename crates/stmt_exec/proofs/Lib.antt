@@ -3,3 +3,4 @@ pub mod DomainLaws
 pub mod AimLaws
 pub mod StandingLaws
 pub mod StateLaws
+pub mod WriteLaws

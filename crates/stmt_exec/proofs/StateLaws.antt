@@ -13,6 +13,7 @@ use Rattle.design_core.proofs.BoolLaws.{if_true, if_false}
 use Rattle.value_domain.proofs.PlaceLaws.{length_placed, length_selected, selected_at, if_lt, if_ge, same_lists_bits}
 use Rattle.value_domain.proofs.PlaceLaws as vp
 use Rattle.stmt_exec.specs.State.{assignment}
+use Rattle.stmt_exec.specs.Writes.{FitsAim, AllFit}
 use Rattle.stmt_exec.specs.Aims.{Hit, Aim, base_in, aim_places, all_places, all_count, one_written, all_written}
 
 -- one bit changed
@@ -188,16 +189,10 @@ module _ (blocking inside : Bool) (embed : List (List Bool) → St)
       (λ i. (let a = w i in let b = h.0 in let c = ap length e in omega arith))
       ∙ ap embed (set_row_twice rows s k (first_bit us) row l)
 
-  -- an aim is at one of the vectors, of these lengths
-  pub record FitsAim (ws : List ℕ) (a : Aim) : Type 0 where
-    pub there : a.hit.vector < length ws
-    pub most : get_or ws a.hit.vector 0 ≤ a.most
-    pub least : inside ≡ false → a.most ≤ get_or ws a.hit.vector 0
-
   width_row : (rows : List (List Bool)) (s : ℕ) → s < length rows → get_or (map length rows) s 0 ≡ length (get_or rows s [])
   width_row rows s l = get_or-map length rows s [] 0 l
 
-  puts_aim : (rows : List (List Bool)) (a : Aim) (from : ℕ) (vs : List Bool) → FitsAim (map length rows) a
+  puts_aim : (rows : List (List Bool)) (a : Aim) (from : ℕ) (vs : List Bool) → FitsAim inside (map length rows) a
       → puts blocking (aim_places inside a) (drop from vs) (embed rows) ≡ embed (one_written a.hit from vs rows)
   puts_aim rows a from vs f =
       let n = length-map rows length in
@@ -208,7 +203,7 @@ module _ (blocking inside : Bool) (embed : List (List Bool) → St)
       (let q = f.most in omega arith) (length_selected (pos from) a.hit.count vs)
       (λ j h. selected_at (pos from) a.hit.count vs j h ∙ sym (get_or-drop from vs j false)))
 
-  wide_after : (rows : List (List Bool)) (a : Aim) (from : ℕ) (vs : List Bool) → FitsAim (map length rows) a → map length (one_written a.hit from vs rows) ≡ map length rows
+  wide_after : (rows : List (List Bool)) (a : Aim) (from : ℕ) (vs : List Bool) → FitsAim inside (map length rows) a → map length (one_written a.hit from vs rows) ≡ map length rows
   wide_after rows a from vs f =
       let n = length-map rows length in
       let l : a.hit.vector < length rows = omega (arith, f.there, n) in
@@ -216,16 +211,12 @@ module _ (blocking inside : Bool) (embed : List (List Bool) → St)
       ∙ ap (slice_set (map length rows) a.hit.vector) (length_placed a.hit.low (selected (pos from) a.hit.count vs) (get_or rows a.hit.vector []) ∙ sym (width_row rows a.hit.vector l))
       ∙ set-get_or (map length rows) a.hit.vector 0
 
-  abbrev pub AllFit : List ℕ → List Aim → Type 0
-  AllFit ws [] = Unit {0}
-  AllFit ws (a ∷ as') = FitsAim ws a × AllFit ws as'
-
   -- an assignment to a left side is the writes of its parts
-  pub puts_all : (ws : List ℕ) (as' : List Aim) (vs : List Bool) (rows : List (List Bool)) → map length rows ≡ ws → AllFit ws as'
+  pub puts_all : (ws : List ℕ) (as' : List Aim) (vs : List Bool) (rows : List (List Bool)) → map length rows ≡ ws → AllFit inside ws as'
       → puts blocking (all_places inside as') vs (embed rows) ≡ embed (all_written (map (λ (a : Aim). a.hit) as') vs rows)
   puts_all ws [] vs rows e h = refl
   puts_all ws (a ∷ as') vs rows e h =
-      let fit : FitsAim (map length rows) a = subst (λ w. FitsAim w a) (sym e) h.0 in
+      let fit : FitsAim inside (map length rows) a = subst (λ w. FitsAim inside w a) (sym e) h.0 in
       puts_joined blocking (all_places inside as') (aim_places inside a) vs (embed rows)
       ∙ ap (λ n. puts blocking (all_places inside as') vs (puts blocking (aim_places inside a) (drop n vs) (embed rows))) (length_places inside as')
       ∙ ap (puts blocking (all_places inside as') vs) (puts_aim rows a (all_count (map (λ (a : Aim). a.hit) as')) vs fit)

@@ -58,11 +58,11 @@ abbrev pub most_in : Bool → List ℕ → ℕ → ℕ
 most_in true widths k = 65536
 most_in false widths k = slice_index_or widths k 0
 
--- the whole of a vector takes as many bits as it has; an index has at most 127 bits
+-- the whole of a vector takes as many bits as it has; an index has at most 128 bits
 abbrev pub SpotTakes : {S V : Type 0} → Meaning S V → S → ℕ → ℕ → Spot V → Type 0
 SpotTakes m d wide n spot.Whole = wide ≡ n
 SpotTakes m d wide n (spot.At low) = Unit {0}
-SpotTakes m d wide n (spot.Variable index start) = IsWord m d index × (index.length ≤ 127)
+SpotTakes m d wide n (spot.Variable index start) = IsWord m d index × (index.length ≤ 128)
 
 -- a target is 1 to 65,536 bits of a vector
 pub record IsTarget {S V : Type 0} (m : Meaning S V) (widths : List ℕ) (d : S) (t : Target V) : Type 0 where

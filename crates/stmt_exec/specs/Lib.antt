@@ -1,3 +1,4 @@
 pub mod State
 pub mod Aims
 pub mod Runs
+pub mod Writes

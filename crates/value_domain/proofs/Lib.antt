@@ -3,3 +3,4 @@ pub mod LoopLaws
 pub mod PlaceLaws
 pub mod WordLaws
 pub mod MoveLaws
+pub mod NearLaws

@@ -1,6 +1,9 @@
-use crate::{BitsDomain, Domain};
+ghost use Rattle.std.specs.Prelude.{◌≡◌, ◌≤◌, IfOk, length};
+
+use crate::{BitsDomain, Domain, Start, Word, place_at, select_at};
 use bits_core::{Bits, NoMemory};
 use design_core::{Binary, Unary};
+use std::alloc::Global;
 use std::test::Fail;
 
 fn made(answer: Result<Bits, NoMemory>) -> Result<Bits, Fail> {
@@ -40,5 +43,94 @@ fn each_call_on_small_values(rt: HostRuntime) -> Result<(), Fail> {
     assert!(rt; reads(&copied, 9));
     let both = made(domain.binary(Binary::LogicAnd, &a, &one, false))?;
     assert!(rt; reads(&both, 1));
+    Ok(())
+}
+
+/// The lowest bits of a number as a word.
+fn word(alloc: Global, value: u128, size: u32) -> Result<Word<Bits>, Fail>
+    requires some { 1 ≤ size }
+    requires most { size ≤ 65536 }
+    ensures wide { IfOk result (λ w. length w.value ≡ w.length) }
+    ensures long { IfOk result (λ w. w.length ≡ size) }
+{
+    match Bits::from_u128(alloc, value, size as usize) {
+        Ok(value) => Ok(Word {
+            value,
+            length: size,
+        }),
+        Err(_) => Err(Fail::from("no memory")),
+    }
+}
+
+/// Whether the four bits from a variable place on are as expected.
+fn selects(
+    alloc: Global,
+    index: u128,
+    size: u32,
+    start: Start,
+    expected: u128,
+) -> Result<bool, Fail>
+    requires some { 1 ≤ size }
+    requires most { size ≤ 128 }
+{
+    let mut domain = BitsDomain::new(alloc);
+    let base = word(alloc, 0xb2, 8)?;
+    let at = word(alloc, index, size)?;
+    let bits = made(select_at(alloc, &mut domain, &base.value, &at, start, 4))?;
+    Ok(reads(&bits, expected))
+}
+
+/// Whether three bits written from a variable place on leave what is expected.
+fn writes(alloc: Global, index: u128, size: u32, start: Start, expected: u128) -> Result<bool, Fail>
+    requires some { 1 ≤ size }
+    requires most { size ≤ 128 }
+{
+    let mut domain = BitsDomain::new(alloc);
+    let base = word(alloc, 0xb2, 8)?;
+    let part = word(alloc, 5, 3)?;
+    let at = word(alloc, index, size)?;
+    let bits = made(place_at(alloc, &mut domain, &base.value, &part, &at, start))?;
+    Ok(reads(&bits, expected))
+}
+
+fn from(offset: i64, down: bool, signed: bool) -> Start {
+    Start {
+        offset,
+        down,
+        signed,
+    }
+}
+
+#[test]
+fn variable_places(rt: HostRuntime) -> Result<(), Fail> {
+    let alloc = rt.alloc();
+    assert!(rt; selects(alloc, 3, 4, from(0, false, false), 6)?);
+    assert!(rt; selects(alloc, 6, 4, from(0, false, true), 2)?);
+    assert!(rt; selects(alloc, 14, 4, from(0, false, true), 8)?);
+    assert!(rt; selects(alloc, 14, 4, from(0, false, false), 0)?);
+    assert!(rt; selects(alloc, 0, 3, from(1, false, false), 4)?);
+    assert!(rt; selects(alloc, 4, 3, from(7, true, false), 6)?);
+    assert!(rt; selects(alloc, 1000003, 127, from(1000000, false, true), 6)?);
+    assert!(rt;
+        selects(
+            alloc,
+            340282366920938463463374607431768211455,
+            128,
+            from(0, false, true),
+            4
+        )?
+    );
+    assert!(rt;
+        selects(
+            alloc,
+            340282366920938463463374607431768211455,
+            128,
+            from(0, false, false),
+            0
+        )?
+    );
+    assert!(rt; writes(alloc, 6, 4, from(0, false, false), 0x72)?);
+    assert!(rt; writes(alloc, 14, 4, from(0, false, true), 0xb3)?);
+    assert!(rt; writes(alloc, 9, 64, from(3, false, false), 0x72)?);
     Ok(())
 }

@@ -4,7 +4,7 @@ ghost use Rattle.bits_core.specs.Places.{placed, selected};
 ghost use Rattle.design_core.specs.Operators.{index_number, lowest};
 ghost use Rattle.std.specs.Int.RustNames.{unsigned_abs};
 ghost use Rattle.value_domain.specs.Meaning.{Keeps, Stands};
-ghost use Rattle.value_domain.specs.Moved.{AreAmounts, AreNarrow, blended, joined, less};
+ghost use Rattle.value_domain.specs.Moved.{AreAmounts, AreNarrow, IsNearer, blended, far_tell, joined, less};
 ghost use Rattle.value_domain.specs.Words.{IsWord};
 
 use crate::domain::Domain;
@@ -94,6 +94,48 @@ fn less_offset<D: Domain>(
     }
 }
 
+/// One bit: whether an index of 128 bits is far from every vector.
+fn far_bit<D: Domain>(domain: &mut D, index: &D::Value, signed: bool) -> Result<D::Value, NoMemory>
+    requires index_is { D.meaning.is_value domain.old index.now }
+    ensures made { IfOk result (λ r. Stands D.meaning domain.new r 1 (λ v. far_tell signed (D.meaning.reads domain.old v index.now))) }
+    ensures kept { Keeps D.meaning domain.old domain.new }
+{
+    let top = domain.select(index, 127, 1)?;
+    if signed {
+        let under = domain.select(index, 126, 1)?;
+        domain.binary(Binary::Xor, &top, &under, false)
+    } else {
+        Ok(top)
+    }
+}
+
+/// An index of at most 127 bits that selects the same.
+fn nearer<D: Domain>(
+    alloc: Global,
+    domain: &mut D,
+    index: &Word<D::Value>,
+    signed: bool,
+) -> Result<Word<D::Value>, NoMemory>
+    requires index_is { IsWord D.meaning domain.old index.now }
+    requires narrow { index.now.length ≤ 128 }
+    ensures made { IfOk result (λ r. IsNearer D.meaning domain.old domain.new signed index.now r) }
+    ensures kept { Keeps D.meaning domain.old domain.new }
+{
+    if index.length < 128 {
+        let value = domain.copy(&index.value)?;
+        return Ok(Word {
+            value,
+            length: index.length,
+        });
+    }
+    let low = domain.select(&index.value, 0, 127)?;
+    let far = far_bit(domain, &index.value, signed)?;
+    let bits = Bits::from_u128(alloc, 42535295865117307932921825928971026432, 127)?;
+    let distant = domain.constant(&bits)?;
+    let value = domain.mux(&far, &distant, &low)?;
+    Ok(Word { value, length: 127 })
+}
+
 /// Room for an index less an offset, with more to spare than a vector has bits.
 fn room(length: u32, offset: i64) -> u32
     requires { length ≤ 127 }
@@ -116,12 +158,13 @@ fn move_by<D: Domain>(
     start: Start,
 ) -> Result<Amounts<D::Value>, NoMemory>
     requires index_is { IsWord D.meaning domain.old index.now }
-    requires narrow { index.now.length ≤ 127 }
+    requires narrow { index.now.length ≤ 128 }
     ensures made { IfOk result (λ r. AreAmounts D.meaning domain.new r (λ v. lowest start.offset start.down start.signed (D.meaning.reads domain.old v index.now.value))) }
     ensures kept { Keeps D.meaning domain.old domain.new }
 {
-    let wide = room(index.length, start.offset);
-    let value = domain.extend(&index.value, wide, start.signed)?;
+    let near = nearer(alloc, domain, index, start.signed)?;
+    let wide = room(near.length, start.offset);
+    let value = domain.extend(&near.value, wide, start.signed)?;
     let number = Word {
         value,
         length: wide,
@@ -186,7 +229,7 @@ pub fn select_at<D: Domain>(
     requires base_is { D.meaning.is_value domain.old base.now }
     requires fits { D.meaning.width base.now ≤ 65536 }
     requires index_is { IsWord D.meaning domain.old index.now }
-    requires narrow { index.now.length ≤ 127 }
+    requires narrow { index.now.length ≤ 128 }
     requires some { 1 ≤ len }
     requires most { len ≤ 65536 }
     ensures made { IfOk result (λ r. Stands D.meaning domain.new r len
@@ -211,7 +254,7 @@ pub fn place_at<D: Domain>(
     requires fits { D.meaning.width whole.now ≤ 65536 }
     requires part_is { IsWord D.meaning domain.old part.now }
     requires index_is { IsWord D.meaning domain.old index.now }
-    requires narrow { index.now.length ≤ 127 }
+    requires narrow { index.now.length ≤ 128 }
     requires most { part.now.length ≤ 65536 }
     ensures made { IfOk result (λ r. Stands D.meaning domain.new r (D.meaning.width whole.now)
         (λ v. placed (lowest start.offset start.down start.signed (D.meaning.reads domain.old v index.now.value)) (D.meaning.reads domain.old v part.now.value) (D.meaning.reads domain.old v whole.now))) }
