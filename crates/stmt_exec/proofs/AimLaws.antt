@@ -1,7 +1,7 @@
 -- Assignments to the values of an environment.
-use Rattle.std.proofs.Common.{◌≡◌, ℕ, suc, ◌+◌, ◌-◌, ◌<◌, ◌≤◌, Bool, true, false, List, [], ◌∷◌, length, map, get_or, drop, sum_by, ap, ap₂, refl, sym, subst, ◌∙◌, arith, All, Option, if◌then◌else◌, ℤ, pos}
+use Rattle.std.proofs.Common.{◌≡◌, ℕ, ◌+◌, ◌-◌, ◌<◌, ◌≤◌, Bool, true, false, List, [], ◌∷◌, length, map, get_or, drop, sum_by, ap, ap₂, refl, sym, subst, ◌∙◌, arith, All, Option, if◌then◌else◌, ℤ, pos}
 use Rattle.std.specs.Prelude.{slice_set, slice_index_or}
-use Rattle.std.proofs.lemmas.List.{length-map, get_or-map, map-set, set-get_or, drop_more, drop_all, length-set}
+use Rattle.std.proofs.lemmas.List.{length-map, get_or-map, map-set, set-get_or, drop_more}
 use Rattle.std.proofs.lemmas.List.Sums.{sum_by-cons, sum_by-drop_more}
 use Rattle.bits_core.specs.Places.{placed, selected}
 use Rattle.stmt_exec.specs.declared.aims.Target.{Target}
@@ -9,10 +9,8 @@ use Rattle.stmt_exec.specs.declared.aims.Spot.{Spot}
 use Rattle.stmt_exec.specs.declared.aims.Spot.TheVariants as spot
 use Rattle.stmt_exec.specs.Aims.{Hit, SpotTakes, IsTarget, spot_low, hit_of, one_written, all_written, all_count}
 use Rattle.design_core.specs.Operators.{lowest}
-use Rattle.value_domain.specs.declared.variable.Start.{Start}
-use Rattle.value_domain.specs.declared.parts.Word.{Word}
 use Rattle.value_domain.specs.Meaning.{Meaning, Stands, Keeps}
-use Rattle.value_domain.specs.Words.{IsWord, IsGuard, allows}
+use Rattle.value_domain.specs.Words.{IsGuard, allows}
 use Rattle.stmt_exec.proofs.DomainLaws as d
 
 written_back : (b : Bool) (rows : List (List Bool)) (k : ℕ) (p row : List Bool) → row ≡ get_or rows k [] → slice_set rows k (if b then p else row) ≡ (if b then slice_set rows k p else rows)

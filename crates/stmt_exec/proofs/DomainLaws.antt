@@ -1,10 +1,9 @@
 -- What stays as a domain grows, and values under guards.
-use Rattle.std.proofs.Common.{◌≡◌, ℕ, ◌+◌, ◌<◌, ◌≤◌, Bool, true, false, List, [], ◌∷◌, length, map, get_or, ap, ap₂, refl, sym, subst, ◌∙◌, arith, All, Option, Some, None, if◌then◌else◌, ℤ, pos}
-use Rattle.std.proofs.lemmas.List.{length-map, get_or-map}
+use Rattle.std.proofs.Common.{◌≡◌, ℕ, Bool, true, false, List, [], ◌∷◌, length, map, ap, ap₂, refl, sym, subst, ◌∙◌, All, Option, Some, None, if◌then◌else◌, ℤ, pos}
 use Rattle.std.proofs.lemmas.List.Elements.{All-head, All-tail, All-weaker}
 use Rattle.bits_core.specs.Places.{is_set, placed, selected}
 use Rattle.value_domain.specs.Meaning.{Meaning, Stands, Keeps}
-use Rattle.value_domain.specs.Words.{IsWord, IsGuard, allows}
+use Rattle.value_domain.specs.Words.{IsGuard, allows}
 use Rattle.stmt_exec.specs.declared.aims.Spot.{Spot}
 use Rattle.stmt_exec.specs.declared.aims.Spot.TheVariants as spot
 use Rattle.stmt_exec.specs.Aims.{SpotTakes, spot_low}

@@ -4,3 +4,4 @@ pub mod AimLaws
 pub mod StandingLaws
 pub mod StateLaws
 pub mod WriteLaws
+pub mod OneSignal

@@ -1,20 +1,18 @@
 -- Writes to the values of an environment are the writes of the state that it stands for.
-use Rattle.std.proofs.Common.{◌≡◌, ℕ, zero, suc, ◌+◌, ◌-◌, ◌<◌, ◌≤◌, Bool, true, false, List, [], ◌∷◌, ◌++◌, length, map, get_or, drop, ap, ap₂, refl, sym, subst, ◌∙◌, arith, inl, inr, if◌then◌else◌, ◌&&◌, Option, Some, None}
-use Rattle.std.specs.Prelude.{nat_lt, ◌==◌, slice_set, slice_index_or, ℤ, pos, negsuc, ◌+ℤ◌, ◌-ℤ◌}
+use Rattle.std.proofs.Common.{◌≡◌, ℕ, zero, suc, ◌+◌, ◌<◌, ◌≤◌, Bool, true, false, List, [], ◌∷◌, length, map, get_or, drop, ap, ap₂, refl, sym, subst, ◌∙◌, arith, inl, inr, if◌then◌else◌, ◌&&◌, Option, Some, None}
+use Rattle.std.specs.Prelude.{nat_lt, ◌==◌, slice_set, ℤ, pos, negsuc, ◌+ℤ◌, ◌-ℤ◌}
 use Rattle.std.proofs.Math.Path.{fun_ext}
 use Rattle.std.proofs.lemmas.Int.{ints}
 use Rattle.std.proofs.lemmas.Bool.{cases_eq, cases_lt, eq-eqb, ne_eqb, lt-ltb, le-ltb}
-use Rattle.std.proofs.lemmas.Bool.Decides.{nat_tests}
-use Rattle.std.proofs.lemmas.List.{get_or-set_same, get_or-set_other, length-set, set-set, set_past, set-get_or, get_or_past, map-set, get_or-map, length-map, get_or-drop}
-use Rattle.bits_core.specs.Places.{bit_at, bit_at_int, written, placed, selected}
-use Rattle.design_core.specs.declared.place.BitRef.{BitRef}
-use Rattle.design_core.specs.Core.{Assignment, bit, same_bit, set_bit, set_local, spot, spots, Place, lost, in_signal, in_local, place_of, placed_at, St, put, puts, joined, first_bit, rest_bits, signal, local}
+use Rattle.std.proofs.lemmas.List.{get_or-set_same, get_or-set_other, length-set, set-set, set-get_or, map-set, get_or-map, length-map, get_or-drop}
+use Rattle.bits_core.specs.Places.{bit_at, written, placed, selected}
+use Rattle.design_core.specs.Core.{bit, set_bit, set_local, spot, spots, Place, lost, place_of, placed_at, St, put, puts, joined, first_bit, rest_bits}
 use Rattle.design_core.proofs.BoolLaws.{if_true, if_false}
 use Rattle.value_domain.proofs.PlaceLaws.{length_placed, length_selected, selected_at, if_lt, if_ge, same_lists_bits}
 use Rattle.value_domain.proofs.PlaceLaws as vp
 use Rattle.stmt_exec.specs.State.{assignment}
 use Rattle.stmt_exec.specs.Writes.{FitsAim, AllFit}
-use Rattle.stmt_exec.specs.Aims.{Hit, Aim, base_in, aim_places, all_places, all_count, one_written, all_written}
+use Rattle.stmt_exec.specs.Aims.{Aim, base_in, aim_places, all_places, all_count, one_written, all_written}
 
 -- one bit changed
 module _ (rows : List (List Bool)) (s k : ℕ) (v : Bool) (there : s < length rows) (within : k < length (get_or rows s [])) where

@@ -1,5 +1,5 @@
 -- The three kinds of assignments.
-use Rattle.std.proofs.Common.{◌≡◌, ℕ, ◌<◌, ◌≤◌, Bool, true, false, List, [], ◌∷◌, length, map, get_or, ap, ap₂, refl, sym, subst, ◌∙◌, arith, All, Option, if◌then◌else◌}
+use Rattle.std.proofs.Common.{◌≡◌, ℕ, ◌≤◌, Bool, true, false, List, [], ◌∷◌, length, map, ap, ap₂, refl, sym, subst, ◌∙◌, arith, All, Option, if◌then◌else◌}
 use Rattle.std.specs.Prelude.{slice_index_or}
 use Rattle.std.proofs.lemmas.List.Elements.{All-head, All-tail}
 use Rattle.value_domain.specs.Meaning.{Meaning, Keeps}
@@ -8,9 +8,9 @@ use Rattle.stmt_exec.specs.declared.aims.Target.{Target}
 use Rattle.stmt_exec.specs.declared.aims.Spot.{Spot}
 use Rattle.stmt_exec.specs.declared.aims.Spot.TheVariants as spot
 use Rattle.stmt_exec.proofs.DomainLaws.{kept_all, kept_reads}
-use Rattle.design_core.specs.Core.{Assignment, St, puts}
+use Rattle.design_core.specs.Core.{St, puts}
 use Rattle.stmt_exec.specs.State.{IsFrame, IsLike, assignment, ran, state_in}
-use Rattle.stmt_exec.specs.Aims.{Aim, IsTarget, SpotTakes, aim_of, all_places, all_written, hit_of, spot_most}
+use Rattle.stmt_exec.specs.Aims.{IsTarget, SpotTakes, aim_of, all_places, all_written, hit_of, spot_most}
 use Rattle.stmt_exec.specs.Writes.{AllFit, BlockingWrites, FitsAim, LocalWrites, StoredWrites, hits}
 use Rattle.stmt_exec.proofs.StateLaws.{set_assignment, puts_all}
 

@@ -1,5 +1,5 @@
 -- Where an assignment writes.
-use Rattle.std.specs.Prelude.{◌≡◌, ℕ, ◌+◌, ◌≤◌, ◌<◌, Bool, true, false, List, [], ◌∷◌, length, map, slice_index_or, slice_set, ℤ, pos}
+use Rattle.std.specs.Prelude.{◌≡◌, ℕ, ◌+◌, ◌≤◌, ◌<◌, Bool, true, false, List, [], ◌∷◌, length, slice_index_or, slice_set, ℤ, pos}
 use Rattle.bits_core.specs.Places.{placed, selected}
 use Rattle.design_core.specs.Core.{Base, signal, local, Place, joined, placed_at as places_at, spots}
 use Rattle.design_core.specs.Operators.{lowest}

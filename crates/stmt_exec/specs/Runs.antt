@@ -1,5 +1,5 @@
 -- What can be run, and what running it does.
-use Rattle.std.specs.Prelude.{◌≡◌, ℕ, ◌+◌, ◌≤◌, Bool, true, false, not, ◌&&◌, List, [], ◌∷◌, length, map, slice_index_or, sum_by, All, Option, Some, None}
+use Rattle.std.specs.Prelude.{◌≡◌, ℕ, Bool, true, not, ◌&&◌, List, [], ◌∷◌, map, slice_index_or, sum_by, All, Option, Some, None}
 use Rattle.bits_core.specs.Places.{is_set}
 use Rattle.design_core.specs.declared.tree.DExpr.{DExpr}
 use Rattle.design_core.specs.declared.tree.DStmt.{DStmt}
@@ -7,14 +7,14 @@ use Rattle.design_core.specs.declared.tree.DArm.{DArm, out-DArm}
 use Rattle.design_core.specs.declared.tree.DMatch.{DMatch}
 use Rattle.design_core.specs.declared.tree.DLeft.{DLeft}
 use Rattle.design_core.specs.declared.tree.DFunction.{DFunction}
-use Rattle.design_core.specs.Core.{St, Stmt, Term, constant, skip, choose, value, exec, places, entered}
+use Rattle.design_core.specs.Core.{Stmt, constant, skip, choose, value, exec, places, entered}
 use Rattle.design_core.specs.Terms.{term, stmt, left, matching, some_match, lengths, all_left}
 use Rattle.design_core.specs.Formed.{IsFormedStmt, sized_arm, sized_match, sized_function, left_length}
 use Rattle.value_domain.specs.declared.parts.Word.{Word}
 use Rattle.value_domain.specs.Meaning.{Meaning}
 use Rattle.value_domain.specs.Words.{IsWord, allows}
 use Rattle.stmt_exec.specs.declared.aims.Target.{Target}
-use Rattle.stmt_exec.specs.State.{IsFrame, signal_widths, local_widths, size_for, size_in, state_in, assignment, signals_in, locals_in, worth, ran}
+use Rattle.stmt_exec.specs.State.{signal_widths, local_widths, size_for, size_in, state_in, assignment, signals_in, locals_in, worth, ran}
 use Rattle.stmt_exec.specs.Aims.{IsTarget, all_places, aim_of}
 
 -- what follows the arms of a case

@@ -1,11 +1,10 @@
 -- The state that an environment of values stands for, under each valuation.
-use Rattle.std.specs.Prelude.{◌≡◌, ℕ, ◌≤◌, Bool, true, false, List, [], length, map, slice_index_or, All, Option, if◌then◌else◌}
+use Rattle.std.specs.Prelude.{◌≡◌, ℕ, ◌≤◌, Bool, true, false, List, [], map, slice_index_or, All, if◌then◌else◌}
 use Rattle.bits_core.specs.Places.{bit_at}
 use Rattle.design_core.specs.declared.tree.DExpr.{DExpr}
-use Rattle.design_core.specs.Core.{Assignment, St, value, exec, Term}
+use Rattle.design_core.specs.Core.{Assignment, St, value, Term}
 use Rattle.design_core.specs.Terms.{term}
 use Rattle.value_domain.specs.Meaning.{Meaning}
-use Rattle.value_domain.specs.Words.{allows}
 
 -- the bits of a list of values, one for each signal; 0 past the end of one
 abbrev pub assignment : List (List Bool) → Assignment

@@ -1,6 +1,6 @@
 -- What an assignment to the values of an environment is: the writes of the statement, in the state that the environment stands for.
 use Rattle.std.specs.Prelude.{◌≡◌, ℕ, ◌<◌, ◌≤◌, Bool, true, false, List, [], ◌∷◌, length, map, slice_index_or}
-use Rattle.design_core.specs.Core.{Assignment, St, puts}
+use Rattle.design_core.specs.Core.{Assignment, puts}
 use Rattle.stmt_exec.specs.State.{assignment}
 use Rattle.stmt_exec.specs.Aims.{Aim, Hit, all_places, all_written}
 

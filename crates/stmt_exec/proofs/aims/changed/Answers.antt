@@ -1,7 +1,6 @@
-use Rattle.std.proofs.Common.{◌≡◌, ◌∙◌, sym, ap, subst}
 use Rattle.std.proofs.lemmas.Int.{to_z-of_z}
 use Rattle.std.proofs.lemmas.Result.{IfOk-weaker}
-use mir.Val.{SFits, to_z, of_z}
+use mir.Val.{SFits}
 use mir.Syntax.{w64}
 use Rattle.std.proofs.Common.{rules}
 use Rattle.stmt_exec.proofs.DomainLaws as d

@@ -1,6 +1,4 @@
-use Rattle.std.proofs.Common.{◌≡◌, ℕ, ◌+◌, ◌-◌, ◌<◌, ◌∙◌, sym, ap, subst, arith, drop, sum_by, length, map, get_or}
-use Rattle.std.proofs.lemmas.List.Sums.{sum_by-drop_more}
-use Rattle.stmt_exec.specs.declared.aims.Target.{Target}
+use Rattle.std.proofs.Common.{◌-◌, ◌∙◌, sym, subst, map, get_or}
 use Rattle.stmt_exec.specs.Aims.{IsTarget}
 use Rattle.stmt_exec.proofs.DomainLaws as d
 use Rattle.stmt_exec.proofs.AimLaws as a

@@ -1,4 +1,4 @@
-use Rattle.std.proofs.Common.{◌≡◌, ℕ, Bool, List, map, drop, sum_by, All, if◌then◌else◌}
+use Rattle.std.proofs.Common.{◌≡◌, ℕ, Bool, map, drop, sum_by, All, if◌then◌else◌}
 use Rattle.stmt_exec.specs.Aims.{all_written, hit_of}
 use Rattle.value_domain.specs.Meaning.{Keeps}
 use Rattle.value_domain.specs.Words.{allows}

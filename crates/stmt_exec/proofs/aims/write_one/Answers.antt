@@ -1,4 +1,4 @@
-use Rattle.std.proofs.Common.{arith, pos, ◌≡◌}
+use Rattle.std.proofs.Common.{arith}
 use Rattle.std.proofs.lemmas.Int.{ints}
 use Rattle.stmt_exec.proofs.AimLaws as a
 use Rattle.stmt_exec.proofs.aims.write_one.Goals as goal

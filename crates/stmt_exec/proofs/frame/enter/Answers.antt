@@ -1,4 +1,4 @@
-use Rattle.std.proofs.Common.{◌≡◌, ◌∷◌, ◌++◌, ℕ, ◌+◌, ◌<◌, ◌≤◌, sym, ap, ◌∙◌, arith, length, map, take, get_or, subst}
+use Rattle.std.proofs.Common.{◌<◌, arith, length}
 use Rattle.design_core.specs.Terms.{lengths}
 use Rattle.stmt_exec.proofs.DomainLaws as d
 use Rattle.stmt_exec.proofs.StandingLaws as s

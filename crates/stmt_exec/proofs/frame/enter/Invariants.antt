@@ -1,4 +1,4 @@
-use Rattle.std.proofs.Common.{◌≡◌, ◌∷◌, ◌++◌, false, map, take, replicate}
+use Rattle.std.proofs.Common.{◌∷◌, ◌++◌, false, map, take, replicate}
 use Rattle.design_core.specs.Core.{fitted}
 use Rattle.design_core.specs.Terms.{lengths}
 use Rattle.value_domain.specs.Meaning.{Keeps}
