@@ -1,6 +1,8 @@
 ghost use Rattle.std.specs.Prelude.{◌≡◌, ◌≤◌, IfOk, length};
 
-use crate::{BitsDomain, Domain, Start, Word, place_at, select_at};
+use crate::{
+    BitsDomain, Domain, Start, Word, guarded, join, matched, narrowed, place_at, repeat, select_at,
+};
 use bits_core::{Bits, NoMemory};
 use design_core::{Binary, Unary};
 use std::alloc::Global;
@@ -132,5 +134,51 @@ fn variable_places(rt: HostRuntime) -> Result<(), Fail> {
     assert!(rt; writes(alloc, 6, 4, from(0, false, false), 0x72)?);
     assert!(rt; writes(alloc, 14, 4, from(0, false, true), 0xb3)?);
     assert!(rt; writes(alloc, 9, 64, from(3, false, false), 0x72)?);
+    Ok(())
+}
+
+fn made_word(answer: Result<Word<Bits>, NoMemory>) -> Result<Word<Bits>, Fail> {
+    match answer {
+        Ok(word) => Ok(word),
+        Err(_) => Err(Fail::from("no memory")),
+    }
+}
+
+/// Whether an item of a case with these free bits is that of the selector.
+fn matches(alloc: Global, selector: u128, item: u128, free: u128) -> Result<bool, Fail> {
+    let mut domain = BitsDomain::new(alloc);
+    let selector = word(alloc, selector, 4)?;
+    let item = word(alloc, item, 4)?;
+    let free = word(alloc, free, 4)?;
+    let bits = made(matched(&mut domain, &selector.value, &item.value, &Some(free.value)))?;
+    Ok(reads(&bits, 1))
+}
+
+/// The new value where a guard and a test allow it, else the old one.
+fn chosen(alloc: Global, guard: u128, test: u128, on: bool) -> Result<Bits, Fail> {
+    let mut domain = BitsDomain::new(alloc);
+    let guard = Some(word(alloc, guard, 1)?.value);
+    let test = word(alloc, test, 3)?;
+    let both = Some(made(narrowed(&mut domain, &guard, &test.value, on))?);
+    let new = word(alloc, 9, 4)?;
+    let old = word(alloc, 6, 4)?;
+    made(guarded(&mut domain, &both, new.value, &old.value))
+}
+
+#[test]
+fn parts_and_guards(rt: HostRuntime) -> Result<(), Fail> {
+    let alloc = rt.alloc();
+    let mut domain = BitsDomain::new(alloc);
+    let high = word(alloc, 2, 2)?;
+    let low = word(alloc, 1, 3)?;
+    let joined = made_word(join(&mut domain, &high, &low))?;
+    assert!(rt; joined.length == 5 && reads(&joined.value, 17));
+    let thrice = made_word(repeat(&mut domain, 3, &high))?;
+    assert!(rt; thrice.length == 6 && reads(&thrice.value, 42));
+    assert!(rt; matches(alloc, 13, 9, 4)?);
+    assert!(rt; !matches(alloc, 13, 9, 2)?);
+    assert!(rt; reads(&chosen(alloc, 1, 4, true)?, 9));
+    assert!(rt; reads(&chosen(alloc, 1, 4, false)?, 6));
+    assert!(rt; reads(&chosen(alloc, 0, 4, true)?, 6));
     Ok(())
 }
