@@ -21,28 +21,28 @@ abbrev pub at_length : ℕ → Node → Sized
 at_length n x = record { length = n; formed = λ ls. is_vector n && x.formed ls; weight = x.weight }
 
 module _ (vs : List ℕ) where
-  abbrev node_parts : DNode-F DLeft DNode DStmt DArm DExpr DFunction DMatch → DNode-F Place (ℕ → Node) Body Branch Sized Routine Choice
+  abbrev pub node_parts : DNode-F DLeft DNode DStmt DArm DExpr DFunction DMatch → DNode-F Place (ℕ → Node) Body Branch Sized Routine Choice
   node_parts = map-DNode DLeft DNode DStmt DArm DExpr DFunction DMatch Place (ℕ → Node) Body Branch Sized Routine Choice (sized_left vs) (sized_node vs) (sized_stmt vs) (sized_arm vs) (sized_expr vs) (sized_function vs) (sized_match vs)
 
-  abbrev left_parts : DLeft-F DLeft DNode DStmt DArm DExpr DFunction DMatch → DLeft-F Place (ℕ → Node) Body Branch Sized Routine Choice
+  abbrev pub left_parts : DLeft-F DLeft DNode DStmt DArm DExpr DFunction DMatch → DLeft-F Place (ℕ → Node) Body Branch Sized Routine Choice
   left_parts = map-DLeft DLeft DNode DStmt DArm DExpr DFunction DMatch Place (ℕ → Node) Body Branch Sized Routine Choice (sized_left vs) (sized_node vs) (sized_stmt vs) (sized_arm vs) (sized_expr vs) (sized_function vs) (sized_match vs)
 
-  abbrev stmt_parts : DStmt-F DLeft DNode DStmt DArm DExpr DFunction DMatch → DStmt-F Place (ℕ → Node) Body Branch Sized Routine Choice
+  abbrev pub stmt_parts : DStmt-F DLeft DNode DStmt DArm DExpr DFunction DMatch → DStmt-F Place (ℕ → Node) Body Branch Sized Routine Choice
   stmt_parts = map-DStmt DLeft DNode DStmt DArm DExpr DFunction DMatch Place (ℕ → Node) Body Branch Sized Routine Choice (sized_left vs) (sized_node vs) (sized_stmt vs) (sized_arm vs) (sized_expr vs) (sized_function vs) (sized_match vs)
 
-  expr_out : (e : DExpr) → sized_expr vs e ≡ at_length e.length (node_size vs (node_parts (out-DNode e.node)) e.length)
+  pub expr_out : (e : DExpr) → sized_expr vs e ≡ at_length e.length (node_size vs (node_parts (out-DNode e.node)) e.length)
   expr_out e = fold_out-DExpr Place (ℕ → Node) Body Branch Sized Routine Choice (left_size vs) (node_size vs) stmt_size arm_size expr_size function_size match_size e ∙ ap (λ (f : ℕ → Node). at_length e.length (f e.length)) (fold_out-DNode Place (ℕ → Node) Body Branch Sized Routine Choice (left_size vs) (node_size vs) stmt_size arm_size expr_size function_size match_size e.node)
 
   pub sized_length : (e : DExpr) → (sized_expr vs e).length ≡ e.length
   sized_length e = ap (λ (x : Sized). x.length) (expr_out e)
 
-  expr_node : (e : DExpr) (x : DNode-F DLeft DNode DStmt DArm DExpr DFunction DMatch) → out-DNode e.node ≡ x → sized_expr vs e ≡ at_length e.length (node_size vs (node_parts x) e.length)
+  pub expr_node : (e : DExpr) (x : DNode-F DLeft DNode DStmt DArm DExpr DFunction DMatch) → out-DNode e.node ≡ x → sized_expr vs e ≡ at_length e.length (node_size vs (node_parts x) e.length)
   expr_node e x is = expr_out e ∙ ap (λ y. at_length e.length (node_size vs (node_parts y) e.length)) is
 
-  left_node : (l : DLeft) (x : DLeft-F DLeft DNode DStmt DArm DExpr DFunction DMatch) → out-DLeft l ≡ x → sized_left vs l ≡ left_size vs (left_parts x)
+  pub left_node : (l : DLeft) (x : DLeft-F DLeft DNode DStmt DArm DExpr DFunction DMatch) → out-DLeft l ≡ x → sized_left vs l ≡ left_size vs (left_parts x)
   left_node l x is = fold_out-DLeft Place (ℕ → Node) Body Branch Sized Routine Choice (left_size vs) (node_size vs) stmt_size arm_size expr_size function_size match_size l ∙ ap (λ y. left_size vs (left_parts y)) is
 
-  stmt_node : (s : DStmt) (x : DStmt-F DLeft DNode DStmt DArm DExpr DFunction DMatch) → out-DStmt s ≡ x → sized_stmt vs s ≡ stmt_size (stmt_parts x)
+  pub stmt_node : (s : DStmt) (x : DStmt-F DLeft DNode DStmt DArm DExpr DFunction DMatch) → out-DStmt s ≡ x → sized_stmt vs s ≡ stmt_size (stmt_parts x)
   stmt_node s x is = fold_out-DStmt Place (ℕ → Node) Body Branch Sized Routine Choice (left_size vs) (node_size vs) stmt_size arm_size expr_size function_size match_size s ∙ ap (λ y. stmt_size (stmt_parts y)) is
 
   pub sized_constant : (e : DExpr) (bits : List Bool) → e.node ≡ node.Const bits → sized_expr vs e ≡ at_length e.length (node_size vs (DNode-F.Const bits) e.length)

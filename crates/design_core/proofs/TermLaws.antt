@@ -147,7 +147,7 @@ module _ (size : ℕ → ℕ) where
   skip_last [] = refl
   skip_last (a ∷ as') = ap (choose a.test a.body) (skip_last as')
 
-  arms_are : (arms : List DArm) (selector : Term) (rest : Stmt) → arms_in_turn (map (folded_arm size) arms) selector rest ≡ arms_then (map (arm_of selector) arms) rest
+  pub arms_are : (arms : List DArm) (selector : Term) (rest : Stmt) → arms_in_turn (map (folded_arm size) arms) selector rest ≡ arms_then (map (arm_of selector) arms) rest
   unfolding stmt matching
   arms_are [] selector rest = refl
   arms_are (a ∷ arms) selector rest =

@@ -48,15 +48,15 @@ pub record Place : Type 0 where
   pub formed : List ℕ → Bool → Bool
   pub weight : List ℕ → ℕ
 
--- a statement: whether it is formed, by the locals, whether it stands in a function, and whether its writes are to be blocking
+-- a statement: whether it is formed, by the locals, whether it stands in a function, and which kinds of writes it may have, told by whether they are blocking
 pub record Body : Type 0 where
-  pub formed : List ℕ → Bool → Bool → Bool
+  pub formed : List ℕ → Bool → (Bool → Bool) → Bool
   pub weight : List ℕ → ℕ
 
 -- an arm of a case: the number of its items, and whether it is formed for a selector of a length
 pub record Branch : Type 0 where
   pub items : ℕ
-  pub formed : ℕ → List ℕ → Bool → Bool → Bool
+  pub formed : ℕ → List ℕ → Bool → (Bool → Bool) → Bool
   pub weight : List ℕ → ℕ
 
 -- a function: the lengths of its result and of its inputs
@@ -166,9 +166,13 @@ abbrev pub base_length : List ℕ → List ℕ → DBase → ℕ
 base_length vs ls (base.Signal s) = slice_index_or vs s 0
 base_length vs ls (base.Local k) = slice_index_or ls k 0
 
-abbrev pub rest_formed : Option Body → List ℕ → Bool → Bool → Bool
-rest_formed None ls inside blocking = true
-rest_formed (Some s) ls inside blocking = s.formed ls inside blocking
+abbrev pub rest_formed : Option Body → List ℕ → Bool → (Bool → Bool) → Bool
+rest_formed None ls inside kinds = true
+rest_formed (Some s) ls inside kinds = s.formed ls inside kinds
+
+-- writes of one kind alone
+abbrev pub of_kind : Bool → Bool → Bool
+of_kind wanted blocking = if wanted then blocking else not blocking
 
 abbrev pub rest_weight : Option Body → List ℕ → ℕ
 rest_weight None ls = 0
@@ -235,30 +239,30 @@ node_size vs (DNode-F.Call function arguments) n = record {
 -- each kind of statement; the right side of an assignment is at least as long as its left side (5.4.1), and a loop weighs 1 a turn
 abbrev pub stmt_size : DStmt-F Place (ℕ → Node) Body Branch Sized Routine Choice → Body
 stmt_size (DStmt-F.Block parts) = record {
-  formed = λ ls inside blocking. list_all (λ (x : Body). x.formed ls inside blocking) parts;
+  formed = λ ls inside kinds. list_all (λ (x : Body). x.formed ls inside kinds) parts;
   weight = λ ls. sum (map (λ (x : Body). x.weight ls) parts);
 }
 stmt_size (DStmt-F.Write left right blocking) = record {
-  formed = λ ls inside wanted. left.formed ls inside && right.formed ls && nat_le left.length right.length && (if wanted then blocking else not blocking);
+  formed = λ ls inside kinds. left.formed ls inside && right.formed ls && nat_le left.length right.length && kinds blocking;
   weight = λ ls. left.length + left.weight ls + right.weight ls;
 }
 stmt_size (DStmt-F.If test a b) = record {
-  formed = λ ls inside blocking. test.formed ls && a.formed ls inside blocking && b.formed ls inside blocking;
+  formed = λ ls inside kinds. test.formed ls && a.formed ls inside kinds && b.formed ls inside kinds;
   weight = λ ls. test.weight ls + 1 + a.weight ls + b.weight ls;
 }
 stmt_size (DStmt-F.Case selector arms rest) = record {
-  formed = λ ls inside blocking. selector.formed ls && list_all (λ (x : Branch). x.formed selector.length ls inside blocking) arms && rest_formed rest ls inside blocking;
+  formed = λ ls inside kinds. selector.formed ls && list_all (λ (x : Branch). x.formed selector.length ls inside kinds) arms && rest_formed rest ls inside kinds;
   weight = λ ls. selector.weight ls + selector.length * sum (map (λ (x : Branch). x.items) arms) + sum (map (λ (x : Branch). x.weight ls) arms) + rest_weight rest ls;
 }
 stmt_size (DStmt-F.Turns parts) = record {
-  formed = λ ls inside blocking. list_all (λ (x : Body). x.formed ls inside blocking) parts;
+  formed = λ ls inside kinds. list_all (λ (x : Body). x.formed ls inside kinds) parts;
   weight = λ ls. length parts + sum (map (λ (x : Body). x.weight ls) parts);
 }
 
 abbrev pub arm_size : DArm-F Place (ℕ → Node) Body Branch Sized Routine Choice → Branch
 arm_size x = record {
   items = length x.matches;
-  formed = λ n ls inside blocking. list_all (λ (m : Choice). m.formed n ls) x.matches && x.body.formed ls inside blocking;
+  formed = λ n ls inside kinds. list_all (λ (m : Choice). m.formed n ls) x.matches && x.body.formed ls inside kinds;
   weight = λ ls. sum (map (λ (m : Choice). m.weight ls) x.matches) + x.body.weight ls;
 }
 
@@ -271,7 +275,7 @@ function_size x = record {
   length = x.length;
   inputs = lengths x.inputs;
   formed = is_vector x.length && list_all is_vector (lengths x.inputs) && list_all is_vector (lengths x.locals)
-      && x.body.formed (x.length ∷ (lengths x.inputs ++ lengths x.locals)) true true;
+      && x.body.formed (x.length ∷ (lengths x.inputs ++ lengths x.locals)) true (of_kind true);
   weight = x.body.weight (x.length ∷ (lengths x.inputs ++ lengths x.locals));
 }
 
@@ -318,7 +322,11 @@ left_length vs l = (sized_left vs l).length
 
 -- a statement is formed, in a function or outside, with blocking writes alone or with nonblocking ones alone
 unfoldable pub IsFormedStmt : List ℕ → List ℕ → Bool → Bool → DStmt → Type 0
-IsFormedStmt vs ls inside blocking s = (sized_stmt vs s).formed ls inside blocking ≡ true
+IsFormedStmt vs ls inside blocking s = (sized_stmt vs s).formed ls inside (of_kind blocking) ≡ true
+
+-- a statement is formed, with writes of these kinds
+unfoldable pub IsFormedOf : List ℕ → List ℕ → Bool → (Bool → Bool) → DStmt → Type 0
+IsFormedOf vs ls inside kinds s = (sized_stmt vs s).formed ls inside kinds ≡ true
 
 -- what a statement weighs
 unfoldable pub stmt_weight : List ℕ → List ℕ → DStmt → ℕ

@@ -11,7 +11,7 @@ use Rattle.design_core.specs.declared.signals.Signal.{Signal}
 use Rattle.design_core.specs.declared.items.PowerUp.{PowerUp}
 use Rattle.design_core.specs.Core.{same_bit, Term, constant, span, own, app1, app2, app3, call, Args, stop, pass, Left, nowhere, both, slice, slice_at, Stmt, skip, seq, write, choose}
 use Rattle.design_core.specs.Terms.{stmt}
-use Rattle.design_core.specs.Formed.{is_vector, sized_expr, sized_left, sized_stmt}
+use Rattle.design_core.specs.Formed.{is_vector, of_kind, sized_expr, sized_left, sized_stmt}
 use Rattle.design_core.specs.Parts.{length_at, scope_of, is_register, bits_of_signals}
 
 -- the same bytes
@@ -142,14 +142,14 @@ weight_of vs (item.Clocked scope weight reset body) = reset_weight vs reset body
 
 abbrev pub reset_fits : List ℕ → (ℕ → ℕ) → Option DReset → Bool
 reset_fits vs size None = true
-reset_fits vs size (Some r) = bit_fits vs r.bit && (sized_expr vs r.test).formed [] && (sized_stmt vs r.branch).formed [] false false && silent_stmt (stmt size r.branch)
+reset_fits vs size (Some r) = bit_fits vs r.bit && (sized_expr vs r.test).formed [] && (sized_stmt vs r.branch).formed [] false (of_kind false) && silent_stmt (stmt size r.branch)
 
 -- an assign's left side has no variable index; writes of a combinational body are blocking, those of a clocked body and a reset branch nonblocking; a reset branch reads no signal
 abbrev pub tree_fits : List ℕ → (ℕ → ℕ) → Item → Bool
 tree_fits vs size (item.Assign scope weight l e) = (sized_left vs l).formed [] false && (sized_left vs l).fixed && (sized_expr vs e).formed []
     && nat_le (sized_left vs l).length (sized_expr vs e).length
-tree_fits vs size (item.Comb scope weight body) = (sized_stmt vs body).formed [] false true
-tree_fits vs size (item.Clocked scope weight reset body) = (sized_stmt vs body).formed [] false false && reset_fits vs size reset
+tree_fits vs size (item.Comb scope weight body) = (sized_stmt vs body).formed [] false (of_kind true)
+tree_fits vs size (item.Clocked scope weight reset body) = (sized_stmt vs body).formed [] false (of_kind false) && reset_fits vs size reset
 
 -- an item stands in a scope, is formed, and carries what it weighs
 abbrev pub item_fits : List ℕ → (ℕ → ℕ) → ℕ → Item → Bool
