@@ -1,0 +1,4 @@
+pub mod OperandLaws
+pub mod PartLaws
+pub mod PushLaws
+pub mod StatementLaws
