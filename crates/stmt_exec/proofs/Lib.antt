@@ -4,4 +4,12 @@ pub mod AimLaws
 pub mod StandingLaws
 pub mod StateLaws
 pub mod WriteLaws
+pub mod ChoiceLaws
+pub mod EvalLaws
+pub mod ExecLaws
+pub mod ResolveLaws
+pub mod WalkLaws
+pub mod CombineLaws
+pub mod GuardLaws
+pub mod LayerLaws
 pub mod OneSignal

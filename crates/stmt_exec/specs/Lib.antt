@@ -1,4 +1,5 @@
 pub mod State
 pub mod Aims
 pub mod Runs
+pub mod Choices
 pub mod Writes

@@ -53,6 +53,17 @@ module _ {S V : Type 0} (m : Meaning S V) where
     pub frame : IsFrame d inside outer now next
     pub now_wide : map m.width now ≡ map m.width from
 
+  -- the state of a body outside functions
+  abbrev pub env_state : S → (ℕ → Bool) → List V → List V → St
+  env_state d v now next = record { now = assignment (map (m.reads d v) now); later = assignment (map (m.reads d v) next); locals = [] }
+
+  -- the values of the signals are of the domain, of at most 65,536 bits, and as many and as long in what is to be stored
+  pub record IsEnv (d : S) (now next : List V) : Type 0 where
+    pub now_are : All (m.is_value d) now
+    pub next_are : All (m.is_value d) next
+    pub most : All (λ n. n ≤ 65536) (map m.width now)
+    pub alike : map m.width next ≡ map m.width now
+
   -- the lengths of the signals and of the locals
   abbrev pub signal_widths : Bool → List V → List V → List ℕ
   signal_widths inside outer now = map m.width (signals_in inside outer now)

@@ -26,16 +26,6 @@ pub fn locals_of<'a, V>(inside: bool, outer: &'a [V], now: &'a [V]) -> &'a [V]
     if inside { now } else { outer }
 }
 
-/// The signal that an expression is, if it is one.
-pub fn signal_of(e: &DExpr) -> Option<u32>
-    ensures { MatchOption result (Unit {0}) (λ s. e.now.node ≡ DNode.Signal s) }
-{
-    match &e.node {
-        DNode::Signal(s) => Some(*s),
-        _ => None,
-    }
-}
-
 /// Whether an operator takes its operands as signed (IEEE 1364-2005, 5.5.1).
 pub fn signed_by(op: Binary, own: bool, left: bool, right: bool) -> bool
     ensures { result ≡ by_sign op own left right }

@@ -1,14 +1,16 @@
-//! Parts of an executor of statements over any domain of values: assignments to vectors under guards, and the locals of a call.
+//! Evaluation of expressions and execution of statements over any domain of values.
 #![tactic(auto)]
 
 mod aims;
 mod assignment;
+mod choices;
+mod combine;
+mod environment;
 mod frame;
 mod laws;
+mod walk;
 
-pub use aims::{Spot, Target, one_target, write_all};
-pub use assignment::assign;
-pub use frame::{copy_first, copy_guard, enter, locals_of, signal_of, signals_of, signed_by, zero};
+pub use environment::{Env, eval, exec};
 pub use laws::writes_are_assignments;
 
 #[cfg(test)]

@@ -1,6 +1,7 @@
 ghost use Rattle.std.specs.Prelude.{◌≡◌, ◌∷◌, [], IfOk, length, map};
 
-use crate::{Spot, assign, one_target};
+use crate::aims::{Spot, one_target};
+use crate::assignment::assign;
 use bits_core::{Bits, NoMemory};
 use design_core::DBase;
 use std::alloc::Global;
