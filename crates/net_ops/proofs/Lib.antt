@@ -1,0 +1,10 @@
+pub mod GateLaws
+pub mod BuiltLaws
+pub mod FoldLaws
+pub mod PlaceLaws
+pub mod MeaningLaws
+pub mod SumLaws
+pub mod MoveLaws
+pub mod WordSums
+pub mod TestLaws
+pub mod WordMoves
