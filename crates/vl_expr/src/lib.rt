@@ -4,8 +4,6 @@
 mod errors;
 mod grammar;
 mod parse;
-#[cfg(test)]
-mod tests;
 mod tokens;
 
 pub use errors::ReadError;
