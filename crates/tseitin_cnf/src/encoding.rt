@@ -1,4 +1,6 @@
-ghost use Rattle.std.specs.Prelude.{◌≡◌, ℕ, ◌+◌, ◌<◌, ◌≤◌, ◌^◌, [], Bool, true, length, IfOk, OnOk};
+ghost use Rattle.std.specs.Prelude.{◌≡◌, ℕ, ◌+◌, ◌<◌, ◌≤◌, ◌^◌, [], Bool, true, length, All, IfOk, OnOk};
+ghost use Rattle.cnf_core.specs.Closed.{AreDecided};
+ghost use Rattle.cnf_core.specs.Lit.{variable_of};
 ghost use Rattle.cyc_net.specs.Nets.{LeavesBelow, LeafBelow, bit_at};
 ghost use Rattle.tseitin_cnf.specs.Encoding.{IsEncoded, IsReadSet, IsReadClosed, Walk, walk, begin, with_node};
 ghost use Rattle.tseitin_cnf.specs.Tracks.{Tracks, Good, InputsNamed, numbers};
@@ -121,7 +123,12 @@ pub fn encode(alloc: Global, net: &Net, leaves: u32, goal: NodeId) -> Result<Enc
     requires goal { goal < length net.now }
     requires few { leaves ≤ 2 ^ 27 }
     requires leaves { LeavesBelow leaves net.now }
-    ensures { IfOk result (λ encoded. IsEncoded net.now leaves goal encoded) }
+    ensures encoded { IfOk result (λ encoded. IsEncoded net.now leaves goal encoded) }
+    ensures fit { IfOk result (λ encoded. All (All (λ lit. variable_of lit < encoded.formula.variables + 1)) encoded.formula.clauses) }
+    ensures leaves { IfOk result (λ encoded. encoded.leaves ≤ encoded.formula.variables) }
+    ensures small { IfOk result (λ encoded. encoded.formula.variables < 2 ^ 30) }
+    ensures few { IfOk result (λ encoded. length encoded.formula.clauses < 2 ^ 60) }
+    ensures decided { IfOk result (λ encoded. AreDecided encoded.formula.clauses encoded.formula.variables encoded.leaves) }
 {
     let marks = mark_read(alloc, net, goal)?;
     let mut variables = vec![in alloc; 0u32; net.len()]?;
