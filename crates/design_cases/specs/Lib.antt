@@ -1,3 +1,4 @@
 pub mod OperatorRows
 pub mod WorkedRows
 pub mod TreeRows
+pub mod RootOnly

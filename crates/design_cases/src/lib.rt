@@ -51,3 +51,8 @@ pub fn trees_as_worked()
     ensures free { FreeRows }
     ensures reset { ResetRows }
 {}
+
+#[cfg(test)]
+mod shapes;
+#[cfg(test)]
+mod tests;
