@@ -144,7 +144,7 @@ fn finish(reading: Reading, line: u64) -> Result<Formula, TextFault>
 
 /// The formula that a DIMACS text says: words parted by blanks and newlines, lines that begin with `c` left out, first `p cnf V C`
 /// with V and C below 2^30, then C clauses of literals of the variables 1 to V, each clause ended by 0. Any other text is
-/// `Bad` at the line of the first word that does not fit, or at its last line where words are missing (1 in an empty text).
+/// `Bad`: at the line of the first word that is out of place, and at the last line (1 in an empty text) where the text ends too soon.
 /// Linear in the text.
 pub fn read_dimacs(alloc: Global, bytes: &[u8]) -> Result<Formula, TextFault>
     ensures { Reads result (dimacs_of bytes.now) }

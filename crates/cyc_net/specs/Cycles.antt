@@ -32,8 +32,8 @@ abbrev pub AllHave : List BitLeaf → List BitNode → Type 0
 AllHave [] nexts = Unit {0}
 AllHave (p ∷ ps) nexts = ((node : ℕ) × (node_of nexts p.bit ≡ Some node)) × AllHave ps nexts
 
--- the lists are in ascending order of bits, their nodes are nodes of the net, each leaf of the net stands exactly once in `inputs` and
--- `states` together and no other leaf does, and each stored bit has a next node
+-- bits ascend in each list, and nodes are of the net; the leaves of the net are those of `inputs` and `states`, none twice; each stored bit has a
+-- next node
 pub record IsCycleNet (c : CycleNet) : Type 0 where
   pub inputs : LeavesFrom 0 c.inputs
   pub states : LeavesFrom 0 c.states

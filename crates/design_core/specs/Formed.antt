@@ -137,7 +137,7 @@ binary_weight binary.ShiftLeft a b = 17 * a + b
 binary_weight binary.ShiftRight a b = 17 * a + b
 binary_weight binary.ShiftRightSigned a b = 17 * a + b
 
--- a select or write at a variable place in a vector of n bits
+-- reading or writing n bits at a place that is known only when it runs
 abbrev pub variable_weight : ℕ → ℕ → ℕ
 variable_weight n index = 17 * n + index
 

@@ -39,8 +39,8 @@ IsLeft (clocked body) s σ = (b : BitRef) → drives body b ≡ true → σ b �
 IsLeft (reset_by r asserted branch body) s σ = (b : BitRef) → (drives branch b || drives body b) ≡ true
     → σ b ≡ (if reset_holds r asserted σ then last_write (writes branch (start s σ)) b (s b) else s b)
 
--- the stored value of a register after the cycle: where its reset holds the reset value if the branch writes the bit, and else the value that it had;
--- otherwise the last write of the body to the bit, or the value that it had
+-- what a register stores after the cycle: under its reset, what the reset branch writes to it; without reset, what the body wrote to it last;
+-- and what it stored before, where nothing writes it
 abbrev pub stored_next : CoreItem → Assignment → Assignment → BitRef → Bool
 stored_next (assign l e) s σ b = s b
 stored_next (comb body) s σ b = s b

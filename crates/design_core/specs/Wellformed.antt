@@ -67,7 +67,7 @@ bit_texts (x ∷ xs) = texts_from x 0 x.length ++ bit_texts xs
 abbrev pub path_at : List Scope → ℕ → List ℕ
 path_at scopes s = slice_index_or (map (λ (x : Scope). x.path) scopes) s []
 
--- scope k: the root, at 0, has its name as its path; each other one has a parent of a lower number, and that parent's path, a dot and its name
+-- scope k: the root stands at 0 and its path is its name; any other stands behind its parent, and its name follows the parent's path and a dot
 abbrev pub scope_fits : List Scope → ℕ → Option ℕ → Scope → Bool
 scope_fits scopes k None x = (k == 0) && same_bytes x.path x.name
 scope_fits scopes k (Some p) x = nat_lt p k && same_bytes x.path (dotted (path_at scopes p) x.name)

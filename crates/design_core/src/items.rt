@@ -14,8 +14,8 @@ pub struct DReset {
     pub branch: DStmt,
 }
 
-/// An item of a design: an assign, a combinational process, or a clocked process with an optional asynchronous reset.
-/// The item that keeps a bit with a power-up value is a `Clocked` without reset whose body writes the bit's own value to it.
+/// What drives bits: a continuous assignment (IEEE 1364-2005, 6.1), a process of blocking writes, or a process that acts on the clock, perhaps with an
+/// asynchronous reset. A register that is only given a power-up value is a `Clocked`, without a reset, in which the bit is assigned to itself.
 #[derive(Drop)]
 pub enum Item {
     Assign {

@@ -64,7 +64,7 @@ abbrev pub CutIsSound : Type 0
 CutIsSound = (E : List (Cell BitRef)) (keeps : Cell BitRef → Bool) (held : ℕ → BitRef → Option Bool) (row : Row BitRef)
     → IsValid (filter keeps E) held row → IsValid E held row
 
--- a row that breaks in a cut breaks in the whole, where no dropped cell drives a bit that the row or its slice in the cut reads
+-- what is left out of a cut matters to a row only by driving its bits or those that its slice there reads; else a row broken in the cut is broken in the whole
 abbrev pub UnblockedBreaks : Type 0
 UnblockedBreaks = (E : List (Cell BitRef)) (keeps : Cell BitRef → Bool) (S : List (Cell BitRef)) (R : BitRef → Bool) (held : ℕ → BitRef → Option Bool)
     (p : Option (Bitmap BitRef)) (row : Row BitRef) (launch : ℕ)

@@ -20,7 +20,7 @@ pub fn case_covers()
     ensures always { CoversAlways }
 {}
 
-/// An ordered design has exactly one settled assignment for each stored state and input.
+/// In an ordered design the stored bits and the inputs fix all other bits: one assignment is settled, and no second one.
 pub fn settles_once()
     ensures { SettlesOnce }
 {}
@@ -38,7 +38,7 @@ pub fn cut_is_sound()
     ensures valid { CutIsSound }
 {}
 
-/// A row that breaks in a cut with no blocking box breaks in the whole.
+/// Where no closed box blocks the row, its breaking in the cut is a breaking in the whole.
 pub fn unblocked_breaks()
     ensures { UnblockedBreaks }
 {}

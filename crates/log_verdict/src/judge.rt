@@ -40,15 +40,16 @@ fn judge(alloc: Global, formula: &[u8], log: &[u8], before: u64) -> Result<LogAn
     }
 }
 
-/// The answer for a formula's text and a log's text: the faults of the formula's text come first. Linear in the texts, but for the look-up of
-/// a hint, which is logarithmic.
+/// The answer for a formula's text and a log's text: the faults of the formula's text come first. A hint costs the length of its clause and a look-up,
+/// which is logarithmic; all else is linear in the texts.
 pub fn judge_two(alloc: Global, formula: &[u8], log: &[u8]) -> Result<LogAnswer, NoMemory>
     ensures { IfOk result (IsJudged 0 (text_lines formula.now) (text_lines log.now)) }
 {
     judge(alloc, formula, log, 0)
 }
 
-/// The answer for one text: the formula, the first line `c proof`, and the log up to the first line `c next` or the end. Lines are counted in the text.
+/// The answer for one text with both: a line `c proof` ends the formula, and the log behind it ends at a line `c next` or with the text. Lines are counted
+/// in the whole text.
 pub fn judge_one(alloc: Global, text: &[u8]) -> Result<LogAnswer, NoMemory>
     ensures { IfOk result (IsJudgedOne (text_lines text.now)) }
 {

@@ -115,7 +115,7 @@ fn add_clause(alloc: Global, clauses: &mut Vec<Clause>, lits: &[Lit]) -> Result<
 
 /// The first model in the order of the leaves, 0 before 1; or a log that refutes the formula, by at most `budget` learned
 /// clauses and the empty one; or the learned log of `budget` clauses. A learned clause has literals of leaves alone, each
-/// a decision that a conflict rests on. Each conflict costs passes over all clauses.
+/// a decision that a conflict rests on. Each decision costs passes over all clauses.
 pub fn solve(
     alloc: Global,
     formula: &Formula,

@@ -7,8 +7,8 @@ use crate::sink::{Sink, SinkError};
 use bits_core::NoMemory;
 use std::alloc::Global;
 
-/// Bytes in memory. The writes whose number, from 0, stands in `failing` fail and take nothing; a piece past the room takes
-/// what fits, and fails.
+/// Bytes in memory, up to `room` of them. `failing` lists writes by number, counted from 0: each of these is refused whole. A piece for which the room
+/// does not suffice fills it, and fails.
 #[derive(Drop)]
 pub struct MemSink {
     bytes: Vec<u8>,

@@ -116,8 +116,8 @@ fn goal_formula(
     })
 }
 
-/// The gate formula of a node: leaf i is the variable i + 1, then comes a gate for each node that the goal reads, itself included and leaves
-/// left out, in the order of their numbers, and last a clause that says the goal. Linear in the net for its marks, and else in the
+/// The gate formula of a node: leaf i is the variable i + 1; behind the leaves come gates, one for each node in the cone of the goal that is no leaf,
+/// by ascending number; a last clause says the goal. Linear in the net for its marks, and else in the
 /// nodes that the goal reads.
 pub fn encode(alloc: Global, net: &Net, leaves: u32, goal: NodeId) -> Result<Encoded, NoMemory>
     requires goal { goal < length net.now }

@@ -27,7 +27,7 @@ abbrev pub is_one : (ℕ → Bool) → Text → Bool
 is_one p (b ∷ []) = p b
 is_one p _ = false
 
--- a backslash directly before a newline, or before a carriage return and a newline
+-- a backslash at the end of a line, however the line ends
 abbrev pub is_join : Text → Bool
 is_join (a ∷ b ∷ []) = a == 92 && b == 10
 is_join (a ∷ b ∷ c ∷ []) = a == 92 && (b == 13 && c == 10)

@@ -168,7 +168,7 @@ fn based_is_bad(bytes: &[u8]) -> bool
     }
 }
 
-/// Whether a number is faulty: its digits are missing, begin with `_` or are not of the base, its size is 0 or above 65,536, or its value is 2^128 or more.
+/// Whether a number is faulty: by its size (none, or above 65,536), by its digits (none, a first `_`, or one that its base lacks), or by a value past 128 bits.
 /// Linear in the number.
 #[tactic(auto, unfolding(crate::specs::Numbers::is_bad_number))]
 pub fn is_bad_number(text: &[u8]) -> bool

@@ -13,7 +13,8 @@ pub struct Const {
     pub signed: bool,
 }
 
-/// The values of an expression's replication counts, of both bounds of each `[h:l]` and of the width of each `+:` and `-:`, in source order.
+/// The constants inside an expression that its lengths hang on: how often a replication repeats, the bounds of a part-select, the width of an indexed one.
+/// They stand as in the source.
 pub type CountList = Items<Const>;
 
 fn with_bit(value: u64, flip: bool, bit: bool) -> u64

@@ -13,8 +13,8 @@ use bits_core::{Items, Name};
 use std::alloc::Global;
 use vl_tree::{Code, Expr, Fault, Place, Stop};
 
-/// An expression with the length in bits and the sign that each part has in its context. The parts are the inner expressions in
-/// source order, those of indices and arguments too, but no counts, bounds and widths.
+/// An expression with the length in bits and the sign that each part has in its context. Its parts are its operands from the left, an index and an
+/// argument among them; what a `CountList` holds is no part.
 #[derive(Drop)]
 pub struct SizedExpr {
     pub length: u32,
