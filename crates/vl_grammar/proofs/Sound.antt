@@ -207,7 +207,7 @@ module _ (E : ℕ → Parser Expr) (H : (n : ℕ) (ts rest : Tokens) (t : Expr) 
       carry (λ t rest. Selected t ts rest) (s.Down x i.value) t i.behind rest i.goes (g.down b.left b.sign_is b.right b.close_is)
   select_by_sound x _ t ts us rest r n h = cc
 
-  select_sound : (t : Select) (ts rest : Tokens) → select E ts ≡ got t rest → Selected t ts rest
+  pub select_sound : (t : Select) (ts rest : Tokens) → select E ts ≡ got t rest → Selected t ts rest
   unfolding select
   select_sound t ts rest h = let i = split (E 0 ts) _ _ h in select_by_sound i.value (role_of (next i.behind)) t ts i.behind rest i.was refl i.goes
 

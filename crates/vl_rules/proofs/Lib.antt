@@ -1,0 +1,11 @@
+pub mod Tools
+pub mod Opens
+pub mod Sound
+pub mod Again
+pub mod Ends
+pub mod Moves
+pub mod Tests
+pub mod Knot
+pub mod Modules
+pub mod Parts
+pub mod Nearest

@@ -1,0 +1,13 @@
+pub mod All
+pub mod Declarations
+pub mod Events
+pub mod Files
+pub mod Form
+pub mod Functions
+pub mod Generate
+pub mod Instances
+pub mod Items
+pub mod Modules
+pub mod Ports
+pub mod Shapes
+pub mod Statements
