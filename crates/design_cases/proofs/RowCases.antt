@@ -13,13 +13,12 @@ use Rattle.design_core.specs.Operators.{binary_value, one_bit, all_match}
 use Rattle.design_core.specs.Covers.{first_arm, last_untested, covering, as_is}
 use Rattle.design_core.specs.Terms.{term, left}
 use Rattle.design_core.proofs.TermLaws.{term_signal, term_extend, term_binary, left_whole, left_concat}
-use Rattle.design_core.specs.Cells.{settle, Bitmap, In, driven, IsOrdered}
+use Rattle.design_core.specs.Cells.{settle, states, assigned, Bitmap, In, driven, IsOrdered}
 use Rattle.design_core.specs.Items.{CoreItem, assign, comb, clocked, reset_by, cell_of, IsGood, start}
 use Rattle.design_core.specs.Rows.{CanBreak}
 use Rattle.design_core.specs.Leaves.{IsNoLater}
 use Rattle.design_core.specs.Setups.{held_in_window, held_in_run}
 use Rattle.design_core.proofs.BoolLaws.{if_true}
-use Rattle.design_laws.proofs.TraceLaws.{states, assigned}
 use Rattle.design_laws.proofs.ComputedLaws.{computed}
 use Rattle.design_cases.specs.WorkedRows.{read, wire, of, row, anded, sum_of, load, clear, no_power, through, ThroughIsProved, grounded, GroundedIsRefuted, GroundedFirst, gated, GatedByCondition, piped, PipedByTwo, enabled, EnabledByCondition, kept, g_is_set, KeptStaysOpen, cleared, ClearedAtLaunchOne, carried, CarriedByCondition, reset_low, ResetIsReleased, one_of, longer, sum_tree, TreeIsRead, item_test, arm_low, arm_high, switched, SwitchedByCondition}
 use Rattle.design_cases.proofs.RowTools.{no_fixed, good_assign, only_one, both_good, checked_window, checked_run, no_reset, pair_is, valid_when, breaks_so, window_so, none_between}
@@ -159,13 +158,13 @@ kept_holds u w =
     let E = map cell_of kept in
     let c = checked_run kept None 0 kept_ordered kept_good (no_reset E) in
     let same = computed E (held_in_run [] None 0) c (u + 0) w.s w.σ w.trace in
-    let p = pair_is w.breaks.pair (of 0, of 1) w.breaks.is_one in
+    let p = pair_is w.hits.pair (of 0, of 1) w.hits.is_one in
     let g : w.s 0 (of 2) ≡ true = w.begins (cell_of (clocked (write (wire 2) (read 2) false))) (inl refl) (of 2) refl refl in
     no_fixed (w.σ u (of 0)) (
     sym (and_true (w.σ u (of 0)) (states E (w.s 0) w.σ u (of 2)) (stays (w.s 0) w.σ u ∙ g))
     ∙ sym (same u (omega arith) (of 1))
     ∙ sym (ap (λ j. w.σ j (of 1)) (plus_zero u))
-    ∙ sym (ap (λ (q : BitRef × BitRef). w.σ (u + 0) q.1) p) ∙ w.breaks.differs ∙ ap (λ (q : BitRef × BitRef). not (w.σ u q.0)) p)
+    ∙ sym (ap (λ (q : BitRef × BitRef). w.σ (u + 0) q.1) p) ∙ w.hits.differs ∙ ap (λ (q : BitRef × BitRef). not (w.σ u q.0)) p)
 
 pub kept_stays_open : KeptStaysOpen
 kept_stays_open = record {
@@ -192,12 +191,12 @@ cleared_first u z v =
     let E = map cell_of cleared in
     let c = checked_run cleared None 0 cleared_ordered cleared_good (no_reset E) in
     let same = computed E (held_in_run [] None 0) c 0 w.s w.σ w.trace in
-    let p = pair_is w.breaks.pair (of 0, of 1) w.breaks.is_one in
+    let p = pair_is w.hits.pair (of 0, of 1) w.hits.is_one in
     let g : w.s 0 (of 2) ≡ true = w.begins (cell_of (clocked clear)) (inl refl) (of 2) refl refl in
     no_fixed (w.σ 0 (of 0)) (
     sym (and_true (w.σ 0 (of 0)) (w.s 0 (of 2)) g)
     ∙ sym (same 0 (omega arith) (of 1))
-    ∙ sym (ap (λ (q : BitRef × BitRef). w.σ 0 q.1) p) ∙ w.breaks.differs ∙ ap (λ (q : BitRef × BitRef). not (w.σ 0 q.0)) p)
+    ∙ sym (ap (λ (q : BitRef × BitRef). w.σ 0 q.1) p) ∙ w.hits.differs ∙ ap (λ (q : BitRef × BitRef). not (w.σ 0 q.0)) p)
 
 below_one : (u : ℕ) → u < 1 → u ≡ 0
 below_one u h = omega arith
@@ -348,9 +347,9 @@ only_high w =
     let E = map cell_of grounded in
     let c = checked_run grounded None 0 grounded_ordered grounded_good (no_reset E) in
     let same = computed E (held_in_run [] None 0) c 0 w.s w.σ w.trace in
-    let p = pair_is w.breaks.pair (of 0, of 1) w.breaks.is_one in
+    let p = pair_is w.hits.pair (of 0, of 1) w.hits.is_one in
     turned_once (w.σ 0 (of 0)) (
-    sym (ap (λ (q : BitRef × BitRef). not (w.σ 0 q.0)) p) ∙ sym w.breaks.differs ∙ ap (λ (q : BitRef × BitRef). w.σ 0 q.1) p ∙ same 0 (omega arith) (of 1))
+    sym (ap (λ (q : BitRef × BitRef). not (w.σ 0 q.0)) p) ∙ sym w.hits.differs ∙ ap (λ (q : BitRef × BitRef). w.σ 0 q.1) p ∙ same 0 (omega arith) (of 1))
 
 no_later : (a : Bool) (other : List Bool) → a ≡ true → a ∷ [] ≡ other → IsNoLater (true ∷ []) other
 no_later a other h e = let P : List Bool → Type 0 = λ v. IsNoLater (true ∷ []) v in subst P (sym (ap (λ x. x ∷ []) h) ∙ e) tt
@@ -358,6 +357,6 @@ no_later a other h e = let P : List Bool → Type 0 = λ v. IsNoLater (true ∷ 
 pub grounded_first : GroundedFirst
 unfolding breaks_so
 grounded_first = record {
-  breaks = record { can = grounded_breaks; has = refl };
+  hits = record { can = grounded_breaks; has = refl };
   none_before = λ other w. no_later (w.can.σ 0 (of 0)) other (only_high w.can) w.has;
 }

@@ -2,11 +2,10 @@
 use Rattle.std.proofs.Common.{◌≡◌, ℕ, ◌+◌, ◌<◌, ◌≤◌, Bool, true, false, not, List, [], ◌∷◌, map, inl, inr, refl, sym, ◌∙◌, ap, subst, Option, Some, None, arith, ◌||◌}
 use Rattle.design_core.specs.declared.place.BitRef.{BitRef}
 use Rattle.design_core.specs.Core.{Term, Left, reads, left_reads, left_drives, surely_names}
-use Rattle.design_core.specs.Cells.{Bitmap, Cell, In, driven, IsLawful, IsOrdered}
+use Rattle.design_core.specs.Cells.{Bitmap, Cell, In, driven, states, assigned, IsLawful, IsOrdered}
 use Rattle.design_core.specs.Items.{CoreItem, assign, cell_of, IsGood}
 use Rattle.design_core.specs.Rows.{Row, Breaks, IsChecked, CanBreak, IsValid}
 use Rattle.design_cases.specs.WorkedRows.{of, row}
-use Rattle.design_laws.proofs.TraceLaws.{states, assigned}
 use Rattle.design_laws.proofs.ComputedLaws.{computed, computed_trace}
 use Rattle.design_core.specs.Setups.{held_in_window, held_in_run}
 use Rattle.design_core.proofs.BoolLaws.{or_right}
@@ -70,15 +69,15 @@ pub valid_when : (E : List (Cell BitRef)) (held : ℕ → BitRef → Option Bool
     → IsValid E held (row source dest latency conditions)
 valid_when E held source dest latency conditions checked agrees w =
     let same = computed E held checked (0 + latency) w.s w.σ w.trace in
-    let p = pair_is w.breaks.pair (of source, of dest) w.breaks.is_one in
+    let p = pair_is w.hits.pair (of source, of dest) w.hits.is_one in
     no_fixed (w.σ 0 (of source)) (
     same 0 (omega arith) (of source)
     ∙ sym (agrees (w.s 0) w.σ
-    (λ k l c m. sym (ap (λ j. w.σ j c.0) (zero_plus k)) ∙ w.breaks.met k l c m)
+    (λ k l c m. sym (ap (λ j. w.σ j c.0) (zero_plus k)) ∙ w.hits.met k l c m)
     (λ k l. w.trace.holding k (omega arith)))
     ∙ sym (same latency (omega arith) (of dest))
     ∙ sym (ap (λ j. w.σ j (of dest)) (zero_plus latency))
-    ∙ sym (ap (λ (q : BitRef × BitRef). w.σ (0 + latency) q.1) p) ∙ w.breaks.differs ∙ ap (λ (q : BitRef × BitRef). not (w.σ 0 q.0)) p)
+    ∙ sym (ap (λ (q : BitRef × BitRef). w.σ (0 + latency) q.1) p) ∙ w.hits.differs ∙ ap (λ (q : BitRef × BitRef). not (w.σ 0 q.0)) p)
 
 abbrev pub or_value : Option Bool → Bool → Bool
 or_value None d = d
@@ -100,7 +99,7 @@ breaks_so E held p f r launch checked b = record {
   σ = assigned E p (stimulus held f);
   trace = computed_trace E held checked (launch + r.latency) p (stimulus held f) (λ k l a v. value_of_some (held k a) (f k a) v);
   begins = λ c m a h k. refl;
-  breaks = b;
+  hits = b;
 }
 
 -- a window from this state with these inputs that breaks the row
@@ -111,7 +110,7 @@ window_so E held start f r checked b = record {
   σ = assigned E start (stimulus held f);
   trace = computed_trace E held checked (0 + r.latency) start (stimulus held f) (λ k l a v. value_of_some (held k a) (f k a) v);
   begins = tt;
-  breaks = b;
+  hits = b;
 }
 
 pub none_between : (t u : ℕ) → t ≤ u → u < t → ⊥

@@ -431,7 +431,7 @@ fn input(alloc: Global) -> Result<Signal, NoMemory>
 }
 
 // A design of one scope with one signal.
-#[tactic(auto, unfolding(design_core::specs::Wellformed::is_design))]
+#[tactic(auto, unfolding(design_core::specs::Wellformed::is_design, design_core::specs::Wellformed::are_formed, design_core::specs::Wellformed::scopes_apart, design_core::specs::Wellformed::print_apart))]
 fn design(alloc: Global) -> Result<Design, NoMemory> {
     let top = root(alloc)?;
     let scopes = one(alloc, top)?;

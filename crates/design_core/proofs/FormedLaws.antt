@@ -1,5 +1,5 @@
 -- Whether a tree is formed and what it weighs: one equation for each constructor.
-use Rattle.std.proofs.Common.{◌≡◌, ℕ, Bool, List, map, refl, ◌∙◌, ap, ◌&&◌, Option, Some, None, ℤ}
+use Rattle.std.proofs.Common.{◌≡◌, ℕ, Bool, List, map, ◌∙◌, ap, ◌&&◌, Some, None, ℤ}
 use Rattle.design_core.specs.declared.operators.Unary.{Unary}
 use Rattle.design_core.specs.declared.operators.Binary.{Binary}
 use Rattle.design_core.specs.declared.tree.DBase.{DBase}

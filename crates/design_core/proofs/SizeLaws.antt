@@ -5,7 +5,7 @@ use Rattle.design_core.specs.declared.operators.Unary.{Unary}
 use Rattle.design_core.specs.declared.operators.Binary.{Binary}
 use Rattle.design_core.specs.declared.tree.DBase.{DBase}
 use Rattle.design_core.specs.declared.tree.DExpr.{DExpr, size-DExpr, size_is-DExpr}
-use Rattle.design_core.specs.declared.tree.DNode.{DNode, size-DNode}
+use Rattle.design_core.specs.declared.tree.DNode.{size-DNode}
 use Rattle.design_core.specs.declared.tree.DNode.TheVariants as node
 use Rattle.design_core.specs.declared.tree.DLeft.{DLeft, size-DLeft}
 use Rattle.design_core.specs.declared.tree.DLeft.TheVariants as lefts

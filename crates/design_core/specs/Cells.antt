@@ -1,6 +1,6 @@
 -- Items as cells: what they drive, what they read, and what they give. Here a design is a list of cells, and no expression is seen:
 -- settled assignments, the next state, windows and runs, and slices.
-use Rattle.std.specs.Prelude.{◌≡◌, ℕ, suc, ◌<◌, ◌≤◌, Bool, true, false, not, ◌&&◌, ◌||◌, if◌then◌else◌, List, [], ◌∷◌, ◌⊎◌, Option, Some}
+use Rattle.std.specs.Prelude.{◌≡◌, ℕ, zero, suc, ◌<◌, ◌≤◌, Bool, true, false, not, ◌&&◌, ◌||◌, if◌then◌else◌, List, [], ◌∷◌, ◌⊎◌, Option, Some}
 
 -- a value for each bit; B is the type of bits, by number or by name
 abbrev pub Bitmap : Type 0 → Type 0
@@ -71,6 +71,15 @@ pub record IsTrace {B : Type 0} (E : List (Cell B)) (held : ℕ → B → Option
   pub settled : (k : ℕ) → k ≤ last → (c : Cell B) → In c E → Holds c (s k) (σ k)
   pub steps : (k : ℕ) → k < last → (c : Cell B) → In c E → Steps c (s k) (σ k) (s (suc k))
   pub holding : (k : ℕ) → k ≤ last → (b : B) (v : Bool) → held k b ≡ Some v → σ k b ≡ v
+
+-- what a first state and inputs make of each cycle: the stored bits, step by step
+abbrev pub states : {B : Type 0} → List (Cell B) → Bitmap B → (ℕ → Bitmap B) → ℕ → Bitmap B
+states E start i zero = start
+states E start i (suc k) = next E (states E start i k) (settle E (states E start i k) (i k))
+
+-- and the assignment, settled for these stored bits and the inputs of the cycle
+abbrev pub assigned : {B : Type 0} → List (Cell B) → Bitmap B → (ℕ → Bitmap B) → ℕ → Bitmap B
+assigned E start i k = settle E (states E start i k) (i k)
 
 -- members S and bits R: every cell of E that drives a bit of R is in S, and those of S read bits of R alone
 pub record IsSlice {B : Type 0} (E S : List (Cell B)) (R : B → Bool) : Type 0 where

@@ -14,5 +14,8 @@ pub mod Reach
 pub mod Names
 pub mod Plain
 pub mod Parts
+pub mod Numbers
+pub mod Mentions
+pub mod Renumbered
 pub mod Wellformed
 pub mod Designs

@@ -1,4 +1,4 @@
--- Rows over bits: when one breaks, when a design lets it break, and what kind of row it is.
+-- Rows over bits: when one breaks, when a design lets it break or meets conditions, and what kind of row it is.
 use Rattle.std.specs.Prelude.{◌≡◌, ℕ, ◌+◌, ◌<◌, ◌≤◌, Bool, true, false, not, List, take, drop, Option, Some, None}
 use Rattle.design_core.specs.Cells.{Bitmap, Cell, In, driven, IsLawful, IsOrdered, IsTrace}
 
@@ -29,13 +29,45 @@ abbrev pub Begins : {B : Type 0} → List (Cell B) → Option (Bitmap B) → Bit
 Begins E None s = Unit {0}
 Begins {B = B} E (Some p) s = (c : Cell B) → In c E → (b : B) → c.drives b ≡ true → c.clocked ≡ true → s b ≡ p b
 
--- some window, or with power-up values some run, breaks the row at this launch
-pub record CanBreak {B : Type 0} (E : List (Cell B)) (held : ℕ → B → Option Bool) (power_up : Option (Bitmap B)) (row : Row B) (launch : ℕ) : Type 0 where
+-- all conditions hold in each cycle up to the last
+abbrev pub Meets : {B : Type 0} → List (B × Bool) → ℕ → (ℕ → Bitmap B) → Type 0
+Meets {B = B} conditions last σ = (k : ℕ) → k ≤ last → (c : B × Bool) → In c conditions → σ k c.0 ≡ c.1
+
+-- what is sought: that a row breaks at a launch, or that conditions hold in each of the cycles 0 to last
+pub data Query (B : Type 0) : Type 0 where
+  breaks : Row B → ℕ → Query B
+  meets : List (B × Bool) → ℕ → Query B
+
+-- the last cycle that it looks at
+abbrev pub last_of : {B : Type 0} → Query B → ℕ
+last_of (breaks row launch) = launch + row.latency
+last_of (meets conditions last) = last
+
+-- the assignments have what is sought
+abbrev pub Hits : {B : Type 0} → Query B → (ℕ → Bitmap B) → Type 0
+Hits (breaks row launch) σ = Breaks row launch σ
+Hits (meets conditions last) σ = Meets conditions last σ
+
+-- the bits that it names are among R
+abbrev pub IsAbout : {B : Type 0} → (B → Bool) → Query B → Type 0
+IsAbout R (breaks row launch) = IsAmong R row
+IsAbout {B = B} R (meets conditions last) = (c : B × Bool) → In c conditions → R c.0 ≡ true
+
+-- some window, or with power-up values some run, has what is sought
+pub record CanHit {B : Type 0} (E : List (Cell B)) (held : ℕ → B → Option Bool) (power_up : Option (Bitmap B)) (query : Query B) : Type 0 where
   pub s : ℕ → Bitmap B
   pub σ : ℕ → Bitmap B
-  pub trace : IsTrace E held (launch + row.latency) s σ
+  pub trace : IsTrace E held (last_of query) s σ
   pub begins : Begins E power_up (s 0)
-  pub breaks : Breaks row launch σ
+  pub hits : Hits query σ
+
+-- some window, or with power-up values some run, breaks the row at this launch
+abbrev pub CanBreak : {B : Type 0} → List (Cell B) → (ℕ → B → Option Bool) → Option (Bitmap B) → Row B → ℕ → Type 0
+CanBreak E held power_up row launch = CanHit E held power_up (breaks row launch)
+
+-- some window meets the conditions in each of the cycles 0 to last
+abbrev pub CanMeet : {B : Type 0} → List (Cell B) → (ℕ → B → Option Bool) → List (B × Bool) → ℕ → Type 0
+CanMeet E held conditions last = CanHit E held None (meets conditions last)
 
 -- no window breaks it
 abbrev pub IsValid : {B : Type 0} → List (Cell B) → (ℕ → B → Option Bool) → Row B → Type 0

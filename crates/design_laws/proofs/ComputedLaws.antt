@@ -1,9 +1,9 @@
 -- A window or run is what its first state and its inputs make of it.
 use Rattle.std.proofs.Common.{◌≡◌, ℕ, ◌≤◌, Bool, true, List, refl, sym, ◌∙◌, Option, Some}
-use Rattle.design_core.specs.Cells.{Bitmap, Cell, IsTrace, IsSlice}
+use Rattle.design_core.specs.Cells.{Bitmap, Cell, IsTrace, IsSlice, states, assigned}
 use Rattle.design_core.specs.Rows.{IsChecked}
 use Rattle.design_laws.proofs.OrderLaws.{settle_keeps, settle_holds}
-use Rattle.design_laws.proofs.TraceLaws.{states, assigned, next_steps, traces_agree}
+use Rattle.design_laws.proofs.TraceLaws.{next_steps, traces_agree}
 
 module _ {B : Type 0} (E : List (Cell B)) (held : ℕ → B → Option Bool) (checked : IsChecked E held) where
   -- each state and each sequence of inputs with the held bits makes a trace

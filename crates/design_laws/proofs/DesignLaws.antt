@@ -9,7 +9,7 @@ use Rattle.design_core.specs.declared.design.Design.{Design}
 use Rattle.design_core.specs.Core.{Term, constant, span, own, app1, app2, app3, call, Args, stop, pass, Left, nowhere, both, slice, slice_at, Stmt, skip, seq, write, choose, reads, args_read, left_reads, stmt_reads}
 use Rattle.design_core.specs.Cells.{In}
 use Rattle.design_core.specs.Parts.{length_at}
-use Rattle.design_core.specs.Wellformed.{is_design, item_fits, signal_lengths, carried_weight, weight_of, is_silent, silent_args, silent_left, silent_stmt}
+use Rattle.design_core.specs.Wellformed.{is_design, are_formed, item_fits, signal_lengths, carried_weight, weight_of, is_silent, silent_args, silent_left, silent_stmt}
 use Rattle.design_core.proofs.BoolLaws.{both_true, false_or}
 
 all_member : {A : Type 0} (p : A → Bool) (xs : List A) (x : A) → list_all p xs ≡ true → In x xs → p x ≡ true
@@ -22,9 +22,9 @@ number_is a b h = grind (arith, nat_tests)
 
 -- each item of a design fits it
 pub item_kept : (design : Design) (i : Item) → In i design.items → item_fits (signal_lengths design.signals) (length_at design.signals) (length design.scopes) i ≡ true
-unfolding is_design
+unfolding is_design are_formed
 item_kept design i m = all_member _ design.items i
-    (both_true _ _ (both_true _ _ (both_true _ _ design.kept).0).0).1 m
+    (both_true _ _ (both_true _ _ (both_true _ _ (both_true _ _ (both_true _ _ design.kept).0).0).0).0).1 m
 
 -- each item weighs what it carries
 pub item_weighs : (design : Design) (i : Item) → In i design.items → carried_weight i ≡ weight_of (signal_lengths design.signals) i

@@ -2,11 +2,11 @@
 use Rattle.std.proofs.Common.{◌≡◌, ℕ, zero, suc, ◌+◌, ◌-◌, ◌≤◌, Bool, true, false, List, [], ◌∷◌, inl, inr, refl, sym, ◌∙◌, ap, subst, if◌then◌else◌, ◌||◌, Option, Some, None, arith, not}
 use Rattle.std.specs.Prelude.{nat_le}
 use Rattle.std.proofs.lemmas.Bool.Decides.{nat_tests}
-use Rattle.design_core.specs.Cells.{Bitmap, Cell, In, driven, IsLawful, IsFirst, IsOrdered, IsTrace}
+use Rattle.design_core.specs.Cells.{Bitmap, Cell, In, driven, IsLawful, IsFirst, IsOrdered, IsTrace, states, assigned}
 use Rattle.design_core.specs.Rows.{Row, Breaks, CanBreak, IsChecked}
 use Rattle.design_core.specs.Reach.{HasNeeds, Reach, source, dest, condition, wire, reset, before, IsLaunchFree, IsFreeReach, IsReached}
 use Rattle.design_laws.proofs.OrderLaws.{false_or, either, if_true, if_false, settle_keeps, settle_holds}
-use Rattle.design_laws.proofs.TraceLaws.{states, assigned, held_or, next_steps}
+use Rattle.design_laws.proofs.TraceLaws.{held_or, next_steps}
 
 zero_plus : (k : ℕ) → k ≡ 0 + k
 zero_plus k = omega arith
@@ -129,7 +129,7 @@ module _ {B : Type 0} where
         σ = assigned E p i;
         trace = v;
         begins = λ c m b h k. refl;
-        breaks = reached_breaks Q row n w.σ (assigned E p i) among
+        hits = reached_breaks Q row n w.σ (assigned E p i) among
             (reached_same E needs Q checked.ordered checked.lawful has reach row.latency n held held' w.s w.σ (states E p i) (assigned E p i)
             (trace_to w.s w.σ E held (0 + row.latency) row.latency (zero_plus row.latency) w.trace) v
             (λ k l b q u. (let r : nat_le n (n + k) ≡ true = grind (arith, nat_tests) in
@@ -137,7 +137,7 @@ module _ {B : Type 0} where
             sym (settle_keeps E (states E p i (n + k)) (i (n + k)) b u
             ∙ if_true (nat_le n (n + k)) (w.σ (n + k - n) b) (held_or (held' (n + k) b)) r
             ∙ ap (λ j. w.σ j b) back))))
-            w.breaks;
+            w.hits;
       }
 
   -- the reach of a row is such a set, where the row is launch-free

@@ -31,12 +31,12 @@ module _ {B : Type 0} where
       holding = λ k l b v h. w.trace.holding (n + k) (omega arith) b v (shifted k b ∙ h);
     };
     begins = tt;
-    breaks = record {
-      met = λ k l c m. (let z : n + (0 + k) ≡ n + k = omega arith in ap (λ j. w.σ j c.0) z ∙ w.breaks.met k l c m);
-      pair = w.breaks.pair;
-      is_one = w.breaks.is_one;
-      differs = (let z : n + (0 + row.latency) ≡ n + row.latency = omega arith in ap (λ j. w.σ j w.breaks.pair.1) z)
-          ∙ w.breaks.differs ∙ ap not (ap (λ j. w.σ j w.breaks.pair.0) (sym (plus_zero n)));
+    hits = record {
+      met = λ k l c m. (let z : n + (0 + k) ≡ n + k = omega arith in ap (λ j. w.σ j c.0) z ∙ w.hits.met k l c m);
+      pair = w.hits.pair;
+      is_one = w.hits.is_one;
+      differs = (let z : n + (0 + row.latency) ≡ n + row.latency = omega arith in ap (λ j. w.σ j w.hits.pair.1) z)
+          ∙ w.hits.differs ∙ ap not (ap (λ j. w.σ j w.hits.pair.0) (sym (plus_zero n)));
     };
   }
 
@@ -55,7 +55,7 @@ module _ {B : Type 0} where
   -- a row that breaks breaks in one of its bits
   pub breaks_in_bit : (E : List (Cell B)) (held : ℕ → B → Option Bool) (p : Option (Bitmap B)) (row : Row B) (launch : ℕ)
       → CanBreak E held p row launch → (k : ℕ) × (k < length row.pairs) × CanBreak E held p (row_bit row k) launch
-  breaks_in_bit E held p row launch w = let r = taken_at w.breaks.pair row.pairs w.breaks.is_one in (
+  breaks_in_bit E held p row launch w = let r = taken_at w.hits.pair row.pairs w.hits.is_one in (
     r.0,
     r.1,
     record {
@@ -63,7 +63,7 @@ module _ {B : Type 0} where
       σ = w.σ;
       trace = w.trace;
       begins = w.begins;
-      breaks = record { met = w.breaks.met; pair = w.breaks.pair; is_one = r.2; differs = w.breaks.differs };
+      hits = record { met = w.hits.met; pair = w.hits.pair; is_one = r.2; differs = w.hits.differs };
     },
   )
 
@@ -74,7 +74,7 @@ module _ {B : Type 0} where
     σ = w.σ;
     trace = w.trace;
     begins = w.begins;
-    breaks = record { met = w.breaks.met; pair = w.breaks.pair; is_one = in_taken w.breaks.pair k row.pairs w.breaks.is_one; differs = w.breaks.differs };
+    hits = record { met = w.hits.met; pair = w.hits.pair; is_one = in_taken w.hits.pair k row.pairs w.hits.is_one; differs = w.hits.differs };
   }
 
 -- from the first launch on the outside holds what it holds in a window

@@ -1,11 +1,11 @@
 -- A checked design breaks a row where the slice, seen by names, breaks the named row, and with the same values of the leaves.
 use Rattle.std.proofs.Common.{◌≡◌, ℕ, ◌+◌, Bool, true, List, [], ◌∷◌, map, refl, sym, ◌∙◌, ap, ap₂, subst, Option, Some, None}
-use Rattle.design_core.specs.Cells.{Bitmap, Cell, In, IsTrace}
-use Rattle.design_core.specs.Rows.{Row, Breaks, Begins, CanBreak}
+use Rattle.design_core.specs.Cells.{Bitmap, Cell, In, IsTrace, states, assigned}
+use Rattle.design_core.specs.Rows.{Row, Breaks, breaks, Begins, CanBreak}
 use Rattle.design_core.specs.Leaves.{Leaf, stored, input, leaf_value, BreaksWith, IsFirstBreak, IsLeafOf}
 use Rattle.design_core.specs.Names.{AreNamed, named_leaf, SamePower, Seen}
-use Rattle.design_laws.proofs.TraceLaws.{part_trace, states, assigned, filled, longer_same}
-use Rattle.design_laws.proofs.RowLaws.{part_begins, whole_breaks, start_of, starts_same}
+use Rattle.design_laws.proofs.TraceLaws.{part_trace, filled, longer_same}
+use Rattle.design_laws.proofs.RowLaws.{part_begins, whole_hits, start_of, starts_same}
 use Rattle.design_laws.proofs.LeafLaws.{starts_stored, same_leaves}
 use Rattle.design_laws.proofs.NameLaws.{trace_pulled, trace_pushed, breaks_pulled, breaks_pushed}
 
@@ -61,8 +61,8 @@ module _ {B N : Type 0} (W : List (Cell N)) (named : ℕ → N → Option Bool) 
         (part_trace d.all d.slice d.held (launch + d.own_row.latency) w.s w.σ d.is_slice.inside w.trace);
     begins = begins_pushed W d.slice d.to d.back power d.power_up (w.s 0) d.cells_named d.power_named
         (part_begins d.all d.slice d.power_up (w.s 0) d.is_slice.inside w.begins);
-    breaks = let P : Row N → Type 0 = λ r. Breaks r launch (λ k n. w.σ k (d.back n)) in
-        subst P d.row_named (breaks_pushed d.to d.back d.cells_named.returns d.own_row launch w.σ w.breaks);
+    hits = let P : Row N → Type 0 = λ r. Breaks r launch (λ k n. w.σ k (d.back n)) in
+        subst P d.row_named (breaks_pushed d.to d.back d.cells_named.returns d.own_row launch w.σ w.hits);
   }
 
   -- what the named slice lets break, seen by the bits of the design
@@ -72,12 +72,12 @@ module _ {B N : Type 0} (W : List (Cell N)) (named : ℕ → N → Option Bool) 
     σ = λ k b. w.σ k (d.to b);
     trace = pulled_trace (launch + d.own_row.latency) (launch + row.latency) w.s w.σ (ap (λ j. launch + j) named_latency) w.trace;
     begins = begins_pulled W d.slice d.to d.back power d.power_up (w.s 0) d.cells_named d.power_named w.begins;
-    breaks = let P : Row N → Type 0 = λ r. Breaks r launch w.σ in
-        breaks_pulled d.to d.back d.own_row launch w.σ (subst P (sym d.row_named) w.breaks);
+    hits = let P : Row N → Type 0 = λ r. Breaks r launch w.σ in
+        breaks_pulled d.to d.back d.own_row launch w.σ (subst P (sym d.row_named) w.hits);
   }
 
   unfoldable pub back_breaks : CanBreak W named power row launch → CanBreak d.all d.held d.power_up d.own_row launch
-  back_breaks w = whole_breaks d.all d.slice d.read d.held d.power_up d.own_row launch d.checked d.is_slice d.among (pulled_breaks w)
+  back_breaks w = whole_hits d.all d.slice d.read d.held d.power_up (breaks d.own_row launch) d.checked d.is_slice d.among (pulled_breaks w)
 
   pushed_leaf : (s σ : ℕ → Bitmap B) (x : Leaf B) → leaf_value (λ k n. s k (d.back n)) (λ k n. σ k (d.back n)) (named_leaf d.to x) ≡ leaf_value s σ x
   pushed_leaf s σ (stored b) = ap (s 0) (d.cells_named.returns b)
@@ -102,7 +102,7 @@ module _ {B N : Type 0} (W : List (Cell N)) (named : ℕ → N → Option Bool) 
 
   pub back_with : (leaves : List (Leaf B)) (values : List Bool) → ((x : Leaf B) → In x leaves → IsLeafOf d.read (launch + d.own_row.latency) d.power_up x)
       → BreaksWith W named power row launch (map (named_leaf d.to) leaves) values → BreaksWith d.all d.held d.power_up d.own_row launch leaves values
-  unfolding back_breaks pulled_breaks whole_breaks
+  unfolding back_breaks pulled_breaks whole_hits
   back_with leaves values are w =
       let c = pulled_breaks w.can in
       let start = start_of d.power_up (c.s 0) in
@@ -119,14 +119,14 @@ module _ {B N : Type 0} (W : List (Cell N)) (named : ℕ → N → Option Bool) 
   pub pushed_first : (leaves : List (Leaf B)) (values : List Bool) → ((x : Leaf B) → In x leaves → IsLeafOf d.read (launch + d.own_row.latency) d.power_up x)
       → IsFirstBreak d.all d.held d.power_up d.own_row launch leaves values → IsFirstBreak W named power row launch (map (named_leaf d.to) leaves) values
   pushed_first leaves values are w = record {
-    breaks = pushed_with leaves values w.breaks;
+    hits = pushed_with leaves values w.hits;
     none_before = λ other u. w.none_before other (back_with leaves other are u);
   }
 
   pub back_first : (leaves : List (Leaf B)) (values : List Bool) → ((x : Leaf B) → In x leaves → IsLeafOf d.read (launch + d.own_row.latency) d.power_up x)
       → IsFirstBreak W named power row launch (map (named_leaf d.to) leaves) values → IsFirstBreak d.all d.held d.power_up d.own_row launch leaves values
   back_first leaves values are w = record {
-    breaks = back_with leaves values are w.breaks;
+    hits = back_with leaves values are w.hits;
     none_before = λ other u. w.none_before other (pushed_with leaves other u);
   }
 

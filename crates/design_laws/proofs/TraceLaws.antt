@@ -1,6 +1,6 @@
 -- Windows and runs: a part of the cells has the windows of the whole, and a closed part decides.
 use Rattle.std.proofs.Common.{◌≡◌, ℕ, zero, suc, ◌≤◌, Bool, true, false, List, [], ◌∷◌, inl, inr, refl, sym, ◌∙◌, ap, subst, if◌then◌else◌, ◌&&◌, ◌||◌, Option, Some, None, arith}
-use Rattle.design_core.specs.Cells.{Bitmap, Cell, In, driven, IsLawful, IsOrdered, Steps, settle, next, IsTrace, IsSlice}
+use Rattle.design_core.specs.Cells.{Bitmap, Cell, In, driven, IsLawful, IsOrdered, Steps, next, states, assigned, IsTrace, IsSlice}
 use Rattle.design_laws.proofs.OrderLaws.{not_both, either, if_true, if_false, settle_keeps, settle_holds, Part, agree}
 
 both_true : (a b : Bool) → a ≡ true → b ≡ true → (a && b) ≡ true
@@ -57,14 +57,6 @@ module _ {B : Type 0} where
         ]))
         ∙ (next_steps xs s σ o.1 c m).stores b k h;
   }
-
-  -- stored bits, cycle by cycle, from inputs
-  abbrev pub states : List (Cell B) → Bitmap B → (ℕ → Bitmap B) → ℕ → Bitmap B
-  states E start i zero = start
-  states E start i (suc k) = next E (states E start i k) (settle E (states E start i k) (i k))
-
-  abbrev pub assigned : List (Cell B) → Bitmap B → (ℕ → Bitmap B) → ℕ → Bitmap B
-  assigned E start i k = settle E (states E start i k) (i k)
 
   -- a trace of a closed part and a trace of the whole agree on what the part reads,
   -- where they begin alike and where the inputs among these bits agree

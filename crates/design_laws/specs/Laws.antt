@@ -4,17 +4,20 @@ use Rattle.std.specs.List.{filter}
 use Rattle.design_core.specs.declared.place.BitRef.{BitRef}
 use Rattle.design_core.specs.declared.items.Item.{Item}
 use Rattle.design_core.specs.declared.design.Design.{Design}
-use Rattle.design_core.specs.Parts.{length_at}
+use Rattle.design_core.specs.declared.signals.Signal.{Signal}
+use Rattle.design_core.specs.Designs.{cells, cut_cells}
+use Rattle.design_core.specs.Numbers.{chosen_cells}
+use Rattle.design_core.specs.Parts.{length_at, item_cell}
 use Rattle.design_core.specs.Wellformed.{item_fits, signal_lengths, carried_weight, weight_of, silent_stmt}
 use Rattle.design_core.specs.Core.{Assignment, Term, Stmt, St, value, exec, reads, stmt_reads, drives}
 use Rattle.design_core.specs.Covers.{Completes}
-use Rattle.design_core.specs.Cells.{Bitmap, Cell, In, driven, IsOrdered, Holds, Settled, IsTrace, IsSlice, IsClosedFrom, IsSliceOf, read_by, cell_reads}
-use Rattle.design_core.specs.Rows.{Row, row_bit, IsAmong, CanBreak, IsValid, IsChecked}
+use Rattle.design_core.specs.Cells.{Bitmap, Cell, In, driven, states, assigned, IsLawful, IsOrdered, Holds, Settled, IsTrace, IsSlice, IsClosedFrom, IsSliceOf, read_by, cell_reads}
+use Rattle.design_core.specs.Rows.{Row, Query, last_of, Hits, IsAbout, row_bit, CanHit, CanBreak, IsValid, IsChecked}
 use Rattle.design_core.specs.Items.{CoreItem, cell_of, item_reads, IsGood}
 use Rattle.design_core.specs.Plain.{IsLeft, stored_next}
 use Rattle.design_core.specs.Setups.{held_in_window, held_in_run}
 use Rattle.design_core.specs.Reach.{HasNeeds, IsFreeReach, IsReached, IsLaunchFree, item_needs, IsProcess, Process, process_cells, needs_in, AreProcesses}
-use Rattle.design_core.specs.Leaves.{Leaf, IsLeafOf, IsFirstBreak}
+use Rattle.design_core.specs.Leaves.{Leaf, IsLeafOf, IsFirstHit, IsFirstBreak}
 use Rattle.design_core.specs.Names.{named_leaf, Seen}
 
 -- the value of an expression depends on the bits that it reads alone
@@ -54,23 +57,36 @@ NextPlain = (x : CoreItem) (s σ : Assignment) (b : BitRef) → (cell_of x).afte
 abbrev pub ReadsPlain : Type 0
 ReadsPlain = (x : CoreItem) (b : BitRef) → cell_reads (cell_of x) b ≡ item_reads x b
 
--- a cut of an ordered design is ordered, and its items are good
+-- a cut of an ordered list of items is ordered, and so is an order of a design's cells without the dropped ones
 abbrev pub CutIsOrdered : Type 0
-CutIsOrdered = (items : List CoreItem) (keeps : CoreItem → Bool) → IsOrdered (map cell_of items) → ((x : CoreItem) → In x items → IsGood x)
-    → IsOrdered (map cell_of (filter keeps items)) × ((x : CoreItem) → In x (filter keeps items) → IsGood x)
+CutIsOrdered = (signals : List Signal) (items : List Item) (keeps : Item → Bool)
+    → IsOrdered (map (item_cell signals) items) → IsOrdered (map (item_cell signals) (filter keeps items))
 
--- what is valid in a cut is valid in the whole
+abbrev pub OrderIsCut : Type 0
+OrderIsCut = (cells : List (Cell BitRef)) (order : List ℕ) (keeps : ℕ → Bool)
+    → IsOrdered (chosen_cells cells order) → IsOrdered (chosen_cells cells (filter keeps order))
+
+-- the cells of a cut are cells of the design
+abbrev pub CutIsPart : Type 0
+CutIsPart = (design : Design) (boxes : ℕ → Bool) (c : Cell BitRef) → In c (cut_cells design boxes) → In c (cells design)
+
+-- what is valid in a part is valid in the whole
+abbrev pub PartIsSound : Type 0
+PartIsSound = (E F : List (Cell BitRef)) (held : ℕ → BitRef → Option Bool) (row : Row BitRef)
+    → ((c : Cell BitRef) → In c F → In c E) → IsValid F held row → IsValid E held row
+
+-- so what is valid in a cut is valid in the design
 abbrev pub CutIsSound : Type 0
-CutIsSound = (E : List (Cell BitRef)) (keeps : Cell BitRef → Bool) (held : ℕ → BitRef → Option Bool) (row : Row BitRef)
-    → IsValid (filter keeps E) held row → IsValid E held row
+CutIsSound = (design : Design) (boxes : ℕ → Bool) (held : ℕ → BitRef → Option Bool) (row : Row BitRef)
+    → IsValid (cut_cells design boxes) held row → IsValid (cells design) held row
 
--- what is left out of a cut matters to a row only by driving its bits or those that its slice there reads; else a row broken in the cut is broken in the whole
-abbrev pub UnblockedBreaks : Type 0
-UnblockedBreaks = (E : List (Cell BitRef)) (keeps : Cell BitRef → Bool) (S : List (Cell BitRef)) (R : BitRef → Bool) (held : ℕ → BitRef → Option Bool)
-    (p : Option (Bitmap BitRef)) (row : Row BitRef) (launch : ℕ)
-    → IsChecked E held → IsSlice (filter keeps E) S R → IsAmong R row
-    → ((c : Cell BitRef) → In c E → (b : BitRef) → R b ≡ true → c.drives b ≡ true → In c (filter keeps E))
-    → CanBreak (filter keeps E) held p row launch → CanBreak E held p row launch
+-- what is left out of a part matters to a query only by driving its bits or those that its slice there reads; else what can be hit in the part can be hit in the whole
+abbrev pub UnblockedHits : Type 0
+UnblockedHits = (E F S : List (Cell BitRef)) (R : BitRef → Bool) (held : ℕ → BitRef → Option Bool)
+    (p : Option (Bitmap BitRef)) (query : Query BitRef)
+    → IsChecked E held → ((c : Cell BitRef) → In c F → In c E) → IsSlice F S R → IsAbout R query
+    → ((c : Cell BitRef) → In c E → (b : BitRef) → R b ≡ true → c.drives b ≡ true → In c F)
+    → CanHit F held p query → CanHit E held p query
 
 -- the least closed part of an ordered design, with the wanted bits and those that its members read, is a slice; and no other part is the least
 abbrev pub SliceIsClosed : Type 0
@@ -79,23 +95,28 @@ SliceIsClosed = (E S : List (Cell BitRef)) (bits : BitRef → Bool) → IsOrdere
 abbrev pub SliceIsOne : Type 0
 SliceIsOne = (E S P : List (Cell BitRef)) (bits : BitRef → Bool) → IsSliceOf E bits S → IsSliceOf E bits P → (c : Cell BitRef) → In c S ↔ In c P
 
--- two checked designs with the same slice of a row break it both or neither, in windows and in runs, and with the same first values
+-- whether a row breaks, and whether conditions are met, depends on the bits that they name alone
+abbrev pub QuerySees : Type 0
+QuerySees = (R : BitRef → Bool) (query : Query BitRef) → IsAbout R query → (σ τ : ℕ → Bitmap BitRef)
+    → ((k : ℕ) → k ≤ last_of query → (b : BitRef) → R b ≡ true → σ k b ≡ τ k b) → Hits query σ → Hits query τ
+
+-- two checked designs with the same slice of a query let it be hit both or neither, in windows and in runs, and with the same first values
 abbrev pub SliceDecides : Type 0
-SliceDecides = (E F S : List (Cell BitRef)) (R : BitRef → Bool) (held : ℕ → BitRef → Option Bool) (p : Option (Bitmap BitRef)) (row : Row BitRef) (launch : ℕ)
-    → IsChecked E held → IsChecked F held → IsSlice E S R → IsSlice F S R → IsAmong R row
-    → CanBreak E held p row launch ↔ CanBreak F held p row launch
+SliceDecides = (E F S : List (Cell BitRef)) (R : BitRef → Bool) (held : ℕ → BitRef → Option Bool) (p : Option (Bitmap BitRef)) (query : Query BitRef)
+    → IsChecked E held → IsChecked F held → IsSlice E S R → IsSlice F S R → IsAbout R query
+    → CanHit E held p query ↔ CanHit F held p query
 
 abbrev pub SliceFirst : Type 0
-SliceFirst = (E F S : List (Cell BitRef)) (R : BitRef → Bool) (held : ℕ → BitRef → Option Bool) (p : Option (Bitmap BitRef)) (row : Row BitRef) (launch : ℕ)
+SliceFirst = (E F S : List (Cell BitRef)) (R : BitRef → Bool) (held : ℕ → BitRef → Option Bool) (p : Option (Bitmap BitRef)) (query : Query BitRef)
     (leaves : List (Leaf BitRef)) (values : List Bool)
-    → IsChecked E held → IsChecked F held → IsSlice E S R → IsSlice F S R → IsAmong R row
-    → ((x : Leaf BitRef) → In x leaves → IsLeafOf R (launch + row.latency) p x)
-    → IsFirstBreak E held p row launch leaves values → IsFirstBreak F held p row launch leaves values
+    → IsChecked E held → IsChecked F held → IsSlice E S R → IsSlice F S R → IsAbout R query
+    → ((x : Leaf BitRef) → In x leaves → IsLeafOf R (last_of query) p x)
+    → IsFirstHit E held p query leaves values → IsFirstHit F held p query leaves values
 
--- the slice itself decides: a checked design breaks a row where its slice does
+-- the slice itself decides: a query can be hit in a checked design where it can in its slice
 abbrev pub SliceAlone : Type 0
-SliceAlone = (E S : List (Cell BitRef)) (R : BitRef → Bool) (held : ℕ → BitRef → Option Bool) (p : Option (Bitmap BitRef)) (row : Row BitRef) (launch : ℕ)
-    → IsChecked E held → IsSlice E S R → IsAmong R row → CanBreak E held p row launch ↔ CanBreak S held p row launch
+SliceAlone = (E S : List (Cell BitRef)) (R : BitRef → Bool) (held : ℕ → BitRef → Option Bool) (p : Option (Bitmap BitRef)) (query : Query BitRef)
+    → IsChecked E held → IsSlice E S R → IsAbout R query → CanHit E held p query ↔ CanHit S held p query
 
 -- the same by the names of bits, of any type: two checked designs whose slices, held bits, power-up values and rows are the same by name
 -- break the row both or neither, and where their leaves are the same by name and in the same order with the same first values
@@ -113,10 +134,10 @@ NamesFirst N = (W : List (Cell N)) (named : ℕ → N → Option Bool) (power : 
     → IsFirstBreak one.all one.held one.power_up one.own_row launch leaves values
     → IsFirstBreak other.all other.held other.power_up other.own_row launch leaves' values
 
--- the order of the items does not matter to what can break
+-- the order of the items does not matter to what can be hit
 abbrev pub OrderIsFree : Type 0
-OrderIsFree = (E O : List (Cell BitRef)) (held : ℕ → BitRef → Option Bool) (p : Option (Bitmap BitRef)) (row : Row BitRef) (launch : ℕ)
-    → ((c : Cell BitRef) → In c E ↔ In c O) → CanBreak E held p row launch ↔ CanBreak O held p row launch
+OrderIsFree = (E O : List (Cell BitRef)) (held : ℕ → BitRef → Option Bool) (p : Option (Bitmap BitRef)) (query : Query BitRef)
+    → ((c : Cell BitRef) → In c E ↔ In c O) → CanHit E held p query ↔ CanHit O held p query
 
 -- a run that breaks a row at a launch has a window that breaks it: a valid row holds at every launch of every run
 abbrev pub RunHasWindow : Type 0
@@ -167,3 +188,13 @@ TraceIsComputed = (E : List (Cell BitRef)) (held : ℕ → BitRef → Option Boo
     → IsTrace E held last s σ → IsTrace E held last t τ → ((b : BitRef) → s 0 b ≡ t 0 b)
     → ((k : ℕ) → k ≤ last → (b : BitRef) → driven E b ≡ false → σ k b ≡ τ k b)
     → (k : ℕ) → k ≤ last → (b : BitRef) → σ k b ≡ τ k b
+
+-- and each first state and inputs that agree with what is held make one, with these inputs
+abbrev pub TraceExists : Type 0
+TraceExists = (E : List (Cell BitRef)) (held : ℕ → BitRef → Option Bool) → IsChecked E held → (last : ℕ) (start : Bitmap BitRef) (i : ℕ → Bitmap BitRef)
+    → ((k : ℕ) → k ≤ last → (b : BitRef) (v : Bool) → held k b ≡ Some v → i k b ≡ v)
+    → IsTrace E held last (states E start i) (assigned E start i) × ((k : ℕ) (b : BitRef) → driven E b ≡ false → assigned E start i k b ≡ i k b)
+
+-- a checked item is a lawful cell
+abbrev pub ItemIsLawful : Type 0
+ItemIsLawful = (x : CoreItem) → IsGood x → IsLawful (cell_of x)

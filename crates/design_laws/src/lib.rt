@@ -5,7 +5,7 @@
 ghost use Rattle.std.specs.Prelude.{ℕ, List};
 ghost use Rattle.design_core.specs.declared.place.BitRef.{BitRef};
 ghost use Rattle.design_laws.specs.Coverage.{CoversAlways};
-ghost use Rattle.design_laws.specs.Laws.{ValueByReads, ExecByReads, ExecByDrives, CaseCovers, SettlesOnce, SettledPlain, NextPlain, ReadsPlain, CutIsOrdered, CutIsSound, UnblockedBreaks, SliceIsClosed, SliceIsOne, SliceDecides, SliceFirst, SliceAlone, NamesDecide, NamesFirst, OrderIsFree, RunHasWindow, BitsDecide, HeldAreInputs, NeedsDecide, FreeLaunch, FreeBySet, ItemsFit, ItemsWeigh, SilentReadsNothing, TraceIsComputed};
+ghost use Rattle.design_laws.specs.Laws.{ValueByReads, ExecByReads, ExecByDrives, CaseCovers, SettlesOnce, SettledPlain, NextPlain, ReadsPlain, CutIsOrdered, CutIsSound, SliceIsClosed, SliceIsOne, SliceDecides, SliceFirst, SliceAlone, NamesDecide, NamesFirst, OrderIsFree, RunHasWindow, BitsDecide, HeldAreInputs, NeedsDecide, FreeLaunch, FreeBySet, ItemsFit, ItemsWeigh, SilentReadsNothing, TraceIsComputed, OrderIsCut, CutIsPart, PartIsSound, UnblockedHits, QuerySees, TraceExists, ItemIsLawful};
 
 /// Values and bodies depend on the bits that they read alone, and a body changes the bits that it drives alone.
 pub fn bodies_by_bits()
@@ -32,15 +32,18 @@ pub fn cells_are_plain()
     ensures reads { ReadsPlain }
 {}
 
-/// A cut of an ordered design is one too, and a row that is valid in the cut is valid in the whole.
+/// A cut of an ordered design is one too, and a row that is valid in the cut, or in any part, is valid in the whole.
 pub fn cut_is_sound()
     ensures ordered { CutIsOrdered }
+    ensures order { OrderIsCut }
+    ensures part { CutIsPart }
+    ensures parts { PartIsSound }
     ensures valid { CutIsSound }
 {}
 
-/// Where no closed box blocks the row, its breaking in the cut is a breaking in the whole.
+/// Where no closed box blocks a query, what can be hit in the cut can be hit in the whole.
 pub fn unblocked_breaks()
-    ensures { UnblockedBreaks }
+    ensures { UnblockedHits }
 {}
 
 /// The slice is the least closed part; with the bits that it reads it is closed, and it is one.
@@ -49,8 +52,9 @@ pub fn slice_is_least()
     ensures one { SliceIsOne }
 {}
 
-/// The slice decides: designs with the same slice break a row both or neither, with the same first values.
+/// The slice decides: designs with the same slice let a row break, or conditions be met, both or neither, with the same first values.
 pub fn slice_decides()
+    ensures sees { QuerySees }
     ensures breaks { SliceDecides }
     ensures first { SliceFirst }
     ensures alone { SliceAlone }
@@ -90,7 +94,13 @@ pub fn designs_keep()
     ensures silent { SilentReadsNothing }
 {}
 
-/// Two windows or runs of a checked design with the same first state and the same inputs are the same.
+/// Two windows or runs of a checked design with the same first state and the same inputs are the same, and each first state and inputs have one.
 pub fn traces_are_computed()
-    ensures { TraceIsComputed }
+    ensures one { TraceIsComputed }
+    ensures some { TraceExists }
+{}
+
+/// A checked item is a lawful cell: what it gives depends on the bits that it reads, and on the stored value of the bit itself.
+pub fn items_are_lawful()
+    ensures { ItemIsLawful }
 {}

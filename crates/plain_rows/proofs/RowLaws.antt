@@ -5,7 +5,7 @@ use Rattle.design_core.specs.declared.place.BitRef.{BitRef}
 use Rattle.design_core.specs.Core.{bit, same_bit}
 use Rattle.design_core.specs.Cells.{Bitmap, Cell, In, driven, read_by, cell_reads, Holds, IsTrace, IsSliceOf}
 use Rattle.design_core.specs.Rows.{Breaks, CanBreak}
-use Rattle.design_core.specs.Leaves.{Leaf, leaf_value, leaves_in_order, IsFirstBreak, IsFirstTrace, IsNoLater, input}
+use Rattle.design_core.specs.Leaves.{Leaf, leaf_value, leaves_in_order, IsFirstBreak, IsFirstBreaking, IsNoLater, input}
 use Rattle.design_core.specs.Setups.{held_in_window, held_in_run, powered}
 use Rattle.plain_form.specs.Table as table
 use Rattle.plain_form.specs.declared.wires.Driver.{Driver}
@@ -72,9 +72,9 @@ module _ (slots : List Slot) (r : table.Row) where
       → given (can.σ 0) (end_of slots r.dest) ≡ not (given (can.σ 0) (end_of slots r.source))
   broken held p can =
       let holds : (c : Cell BitRef) → In c (cells slots) → Holds c (can.s 0) (can.σ 0) = can.trace.settled 0 (omega arith) in
-      let pair : can.breaks.pair ≡ (bit r.source 0, bit r.dest 0) = elim can.breaks.is_one [ inl e ↦ e | inr h ↦ absurd h ] in
+      let pair : can.hits.pair ≡ (bit r.source 0, bit r.dest 0) = elim can.hits.is_one [ inl e ↦ e | inr h ↦ absurd h ] in
       let d : can.σ 0 (bit r.dest 0) ≡ not (can.σ 0 (bit r.source 0)) =
-      sym (ap (λ (q : BitRef × BitRef). can.σ 0 q.1) pair) ∙ can.breaks.differs ∙ ap (λ (q : BitRef × BitRef). not (can.σ 0 q.0)) pair in
+      sym (ap (λ (q : BitRef × BitRef). can.σ 0 q.1) pair) ∙ can.hits.differs ∙ ap (λ (q : BitRef × BitRef). not (can.σ 0 q.0)) pair in
       sym (settled_end slots (can.s 0) (can.σ 0) holds r.dest) ∙ d ∙ ap not (settled_end slots (can.s 0) (can.σ 0) holds r.source)
 
   -- one and the same value stands at both ends
@@ -279,10 +279,10 @@ module _ (slots : List Slot) (r : table.Row) where
         }
 
         abbrev can_run : CanBreak (cells slots) (held_in_run [] None 0) (Some (powered [])) (row_of r) 0
-        can_run = record { s = λ k. off; σ = λ k. σ; trace = trace (held_in_run [] None 0) (λ k b. refl); begins = λ c h b d t. refl; breaks = broken_here }
+        can_run = record { s = λ k. off; σ = λ k. σ; trace = trace (held_in_run [] None 0) (λ k b. refl); begins = λ c h b d t. refl; hits = broken_here }
 
         can_window : CanBreak (cells slots) (held_in_window [] None) None (row_of r) 0
-        can_window = record { s = λ k. off; σ = λ k. σ; trace = trace (held_in_window [] None) (λ k b. refl); begins = tt; breaks = broken_here }
+        can_window = record { s = λ k. off; σ = λ k. σ; trace = trace (held_in_window [] None) (λ k b. refl); begins = tt; hits = broken_here }
 
         abbrev leaves : List (Leaf BitRef)
         leaves = leaves_in_order (bits slots) (λ b. false) (is_leaf (cells slots) (held_in_run [] None 0) (row_of r) row_slice) 0
@@ -305,7 +305,7 @@ module _ (slots : List Slot) (r : table.Row) where
 
         first_break : IsFirstBreak (cells slots) (held_in_run [] None 0) (Some (powered [])) (row_of r) 0 leaves (map (leaf_value (λ k. off) (λ k. σ)) leaves)
         first_break = record {
-          breaks = record { can = can_run; has = refl };
+          hits = record { can = can_run; has = refl };
           none_before = λ other bw.
               let P : List Bool → Type 0 = λ vs. IsNoLater (map (leaf_value (λ k. off) (λ k. σ)) leaves) vs in
               subst P bw.has (none_before bw.can.σ bw.can.s (broken (held_in_run [] None 0) (Some (powered [])) bw.can));
@@ -333,11 +333,11 @@ module _ (slots : List Slot) (r : table.Row) where
             let P : BitRef → Type 0 = λ a. ¬ In (input 0 a) leaves in
             ap (λ o. worth (chosen_one one) (or_itself b.signal o)) undriven ∙ other_zero b.signal one refl (subst P z notin)
 
-        first_trace : IsFirstTrace (cells slots) (held_in_run [] None 0) (Some (powered [])) (row_of r) 0 leaves (λ k. off) (λ k. σ)
+        first_trace : IsFirstBreaking (cells slots) (held_in_run [] None 0) (Some (powered [])) (row_of r) 0 leaves (λ k. off) (λ k. σ)
         first_trace = record {
           trace = trace (held_in_run [] None 0) (λ k b. refl);
           begins = λ c h b d t. refl;
-          breaks = broken_here;
+          hits = broken_here;
           first = first_break;
           other_inputs = λ k le b free no notin.
               let z : k ≡ 0 = omega arith in

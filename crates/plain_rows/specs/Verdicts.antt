@@ -5,7 +5,7 @@ use Rattle.design_core.specs.declared.place.BitRef.{BitRef}
 use Rattle.design_core.specs.Core.{same_bit}
 use Rattle.design_core.specs.Cells.{Bitmap, Cell, driven, read_by, IsSliceOf}
 use Rattle.design_core.specs.Rows.{Row, row_bit, CanBreak, IsValid, IsKind, refuted as refuted_at}
-use Rattle.design_core.specs.Leaves.{Leaf, stored, input, leaves_in_order, IsFirstTrace}
+use Rattle.design_core.specs.Leaves.{Leaf, stored, input, leaves_in_order, IsFirstBreaking}
 
 -- a verdict: proved; refuted at a launch, with the cycles and free bits that are 1
 pub data Verdict : Type 0 where
@@ -36,7 +36,7 @@ pub record IsFirstRun (E : List (Cell BitRef)) (bits : List BitRef) (run : ℕ �
   pub is_slice : IsSliceOf E (named (row_bit row lowest)) slice
   pub s : ℕ → Bitmap BitRef
   pub σ : ℕ → Bitmap BitRef
-  pub first : IsFirstTrace E run (Some power_up) (row_bit row lowest) launch
+  pub first : IsFirstBreaking E run (Some power_up) (row_bit row lowest) launch
       (leaves_in_order bits (λ b. false) (is_leaf E run (row_bit row lowest) slice) (launch + row.latency)) s σ
   pub printed : ones ≡ ones_of σ (leaves_in_order bits (λ b. false) (is_leaf E run (row_bit row lowest) slice) (launch + row.latency))
 

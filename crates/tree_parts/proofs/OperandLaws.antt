@@ -3,7 +3,7 @@ use Rattle.std.proofs.Common.{◌≡◌, ℕ, Bool, List, [], ◌∷◌, ◌∙�
 use Rattle.design_core.specs.declared.operators.Unary.{Unary}
 use Rattle.design_core.specs.declared.operators.Binary.{Binary}
 use Rattle.design_core.specs.declared.tree.DExpr.{DExpr}
-use Rattle.design_core.specs.declared.tree.DNode.{DNode, out-DNode, roll-DNode, roll-out-DNode}
+use Rattle.design_core.specs.declared.tree.DNode.{out-DNode, roll-DNode, roll-out-DNode}
 use Rattle.design_core.specs.declared.tree.DNode.TheVariants as node
 use Rattle.design_core.specs.declared.tree.DFunction.{DFunction}
 use Rattle.design_core.specs.declared.tree.DLeft.TheOpen.{DNode-F}

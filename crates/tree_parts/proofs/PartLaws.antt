@@ -1,6 +1,6 @@
 -- Parts of formed trees are formed, and parts of trees are smaller.
 use denote.Param.Weighed.{most, most-append}
-use Rattle.std.proofs.Common.{◌≡◌, ℕ, suc, ◌+◌, ◌<◌, ◌≤◌, Bool, true, List, [], ◌∷◌, ◌++◌, length, map, get_or, ap, refl, sym, subst, ◌∙◌, ◌&&◌, arith, All, Option, Some, None, ℤ}
+use Rattle.std.proofs.Common.{◌≡◌, ℕ, suc, ◌<◌, ◌≤◌, Bool, true, List, [], ◌∷◌, ◌++◌, length, map, get_or, ap, refl, sym, subst, ◌∙◌, ◌&&◌, arith, All, Option, Some, None, ℤ}
 use Rattle.std.specs.Prelude.{nat_le, ◌==◌, sum}
 use Rattle.std.specs.List.{list_all, sum_by}
 use Rattle.std.specs.Borrow.{Bor}
@@ -12,7 +12,7 @@ use Rattle.design_core.specs.Formed.{Sized, Place, Body, Branch, Choice, Routine
 use Rattle.design_core.specs.Terms.{lengths}
 use Rattle.design_core.specs.declared.tree.DBase.{DBase}
 use Rattle.design_core.specs.declared.tree.DExpr.{DExpr, size-DExpr, size_is-DExpr}
-use Rattle.design_core.specs.declared.tree.DNode.{DNode, out-DNode, roll-DNode, roll-out-DNode}
+use Rattle.design_core.specs.declared.tree.DNode.{out-DNode, roll-DNode, roll-out-DNode}
 use Rattle.design_core.specs.declared.tree.DNode.TheVariants as node
 use Rattle.design_core.specs.declared.tree.DLeft.{DLeft}
 use Rattle.design_core.specs.declared.tree.DLocal.{DLocal}

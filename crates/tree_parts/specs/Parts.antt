@@ -75,6 +75,23 @@ heads_in (DStmt-F.Turns parts) = []
 unfoldable pub heads_of : DStmt → List DExpr
 heads_of s = heads_in (out-DStmt s)
 
+-- a selector with the items that it is compared with; alone it is compared with nothing
+abbrev pub compared_in : List DExpr → List DExpr
+compared_in [] = []
+compared_in (selector ∷ []) = []
+compared_in (selector ∷ e ∷ es) = selector ∷ e ∷ es
+
+abbrev pub asked_in : StmtLayer → List DExpr
+asked_in (DStmt-F.Block parts) = []
+asked_in (DStmt-F.Write left right blocking) = []
+asked_in (DStmt-F.If test a b) = test ∷ []
+asked_in (DStmt-F.Case selector arms rest) = compared_in (selector ∷ items_of arms)
+asked_in (DStmt-F.Turns parts) = []
+
+-- what a statement reads before it runs a part of it
+unfoldable pub asked_of : DStmt → List DExpr
+asked_of s = asked_in (out-DStmt s)
+
 abbrev pub rest_of : Option DStmt → List DStmt
 rest_of None = []
 rest_of (Some s) = s ∷ []

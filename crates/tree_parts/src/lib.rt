@@ -5,7 +5,7 @@ mod expressions;
 mod statements;
 
 pub use expressions::{operands, signal_of};
-pub use statements::{children, heads};
+pub use statements::{asked, children, heads};
 
 #[cfg(test)]
 mod tests;

@@ -1,7 +1,7 @@
 ghost use Rattle.std.specs.Prelude.{◌≡◌, ◌++◌, IfOk, OnOk, map};
 ghost use Rattle.design_core.specs.declared.tree.DArm.{out-DArm};
 ghost use Rattle.design_core.specs.declared.tree.DMatch.{out-DMatch};
-ghost use Rattle.tree_parts.specs.Parts.{children_of, heads_of, items_of, seen};
+ghost use Rattle.tree_parts.specs.Parts.{asked_of, children_of, compared_in, heads_of, items_of, seen};
 
 use bits_core::NoMemory;
 use design_core::{DArm, DExpr, DMatch, DStmt};
@@ -44,6 +44,27 @@ pub fn heads<'a>(alloc: Global, body: &'a DStmt) -> Result<Vec<&'a DExpr>, NoMem
         }
     }
     Ok(all)
+}
+
+/// A selector with the items that it is compared with; alone it is compared with nothing.
+fn compared<'a>(mut parts: Vec<&'a DExpr>) -> Vec<&'a DExpr>
+    ensures { seen result.items ≡ compared_in (seen parts.entry.items) }
+{
+    if parts.len() == 1 {
+        parts.pop();
+    }
+    parts
+}
+
+/// What a statement reads before it runs a part of it: the heads, but a selector that is compared with no item. Linear in their number.
+pub fn asked<'a>(alloc: Global, body: &'a DStmt) -> Result<Vec<&'a DExpr>, NoMemory>
+    ensures { IfOk result (λ r. seen r.items ≡ asked_of body.now) }
+{
+    let parts = heads(alloc, body)?;
+    match body {
+        DStmt::Case { .. } => Ok(compared(parts)),
+        _ => Ok(parts),
+    }
 }
 
 /// Each statement is put at the end of a list.

@@ -1,4 +1,4 @@
-use crate::{children, heads, operands};
+use crate::{asked, children, heads, operands};
 use bits_core::{Items, NoMemory};
 use design_core::{DArm, DBase, DExpr, DLeft, DMatch, DMatchList, DNode, DStmt, Unary};
 use sqlite_items::Boxed;
@@ -153,6 +153,11 @@ fn children_are(alloc: Global, body: &DStmt, numbers: &[u32]) -> Result<bool, No
     Ok(are_writes(all.as_slice(), numbers))
 }
 
+fn asked_are(alloc: Global, body: &DStmt, numbers: &[u32]) -> Result<bool, NoMemory> {
+    let all = asked(alloc, body)?;
+    Ok(are_signals(all.as_slice(), numbers))
+}
+
 fn mux_in_order(alloc: Global) -> Result<bool, NoMemory> {
     let e = mux(alloc)?;
     operands_are(alloc, &e, &[1, 1000, 3])
@@ -173,6 +178,21 @@ fn case_children(alloc: Global) -> Result<bool, NoMemory> {
     children_are(alloc, &body, &[5, 6, 7])
 }
 
+fn case_asked(alloc: Global) -> Result<bool, NoMemory> {
+    let body = case(alloc)?;
+    asked_are(alloc, &body, &[1, 2, 3, 4])
+}
+
+// A case with a default alone: its selector is compared with nothing.
+fn lone_selector(alloc: Global) -> Result<bool, NoMemory> {
+    let body = DStmt::Case {
+        selector: signal(1),
+        arms: Items::new(alloc),
+        rest: Some(Boxed::new(alloc, write(7))?),
+    };
+    asked_are(alloc, &body, &[])
+}
+
 #[test]
 fn parts_in_order(rt: HostRuntime) -> Result<(), Fail> {
     let alloc = rt.alloc();
@@ -180,5 +200,7 @@ fn parts_in_order(rt: HostRuntime) -> Result<(), Fail> {
     assert!(rt; select_has_none(alloc) == Ok(true));
     assert!(rt; case_heads(alloc) == Ok(true));
     assert!(rt; case_children(alloc) == Ok(true));
+    assert!(rt; case_asked(alloc) == Ok(true));
+    assert!(rt; lone_selector(alloc) == Ok(true));
     Ok(())
 }

@@ -4,9 +4,10 @@ use Rattle.design_laws.proofs.slice_decides.Goals as goal
 
 pub returns : goal.returns
 returns c = record {
-  breaks = λ E F S R held p row launch checked checked' one other among.
-      (row_laws.slice_decides E F S R held p row launch checked' one other among, row_laws.slice_decides F E S R held p row launch checked other one among);
+  sees = row_laws.query_sees;
+  breaks = λ E F S R held p query checked checked' one other about.
+      (row_laws.slice_decides E F S R held p query checked' one other about, row_laws.slice_decides F E S R held p query checked other one about);
   first = slice_first;
-  alone = λ E S R held p row launch checked slice among.
-      (row_laws.part_breaks E S held p row launch slice.inside, row_laws.whole_breaks E S R held p row launch checked slice among);
+  alone = λ E S R held p query checked slice about.
+      (row_laws.part_hits E S held p query slice.inside, row_laws.whole_hits E S R held p query checked slice about);
 }
