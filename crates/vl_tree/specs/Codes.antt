@@ -1,4 +1,4 @@
--- The printed number and name of each code.
+-- The printed number and name of each code, and the number of each limit.
 use Rattle.std.specs.Prelude.{ℕ, List, codes}
 use Rattle.vl_tree.specs.declared.faults.Code.{Code}
 use Rattle.vl_tree.specs.declared.faults.Code.TheVariants as code
@@ -122,3 +122,17 @@ name code.Latency = codes "Latency"
 name code.Candidates = codes "Candidates"
 name code.Files = codes "Files"
 name code.Ports = codes "Ports"
+
+-- the most that a limit allows, 0 for a fault
+abbrev pub bound : Code → ℕ
+bound code.FileBytes = 16777216
+bound code.Tokens = 4194304
+bound code.Scopes = 65536
+bound code.Weight = 4194304
+bound code.Rows = 10000
+bound code.Conditions = 32
+bound code.Latency = 64
+bound code.Candidates = 65536
+bound code.Files = 1024
+bound code.Ports = 65536
+bound _ = 0

@@ -4,125 +4,126 @@ ghost use Rattle.vl_tree.specs.Codes as spec;
 use bits_core::{Name, NoMemory};
 use std::alloc::AllocError;
 
-/// Why a source, a table or a text is refused: the faults E and C, and the limits L.
+/// Why a source, a table or a text is refused: the faults E and C, and the limits L. The number of a variant is its place in the order
+/// of the phases in which the faults are sought.
 #[derive(Clone, Copy, Debug, PartialEq, Eq)]
 pub enum Code {
     /// E01
-    BadByte,
+    BadByte = 1,
     /// E02
-    Unclosed,
+    Unclosed = 2,
     /// E03
-    BadNumber,
+    BadNumber = 3,
     /// E04
-    LeftOut,
+    LeftOut = 4,
     /// E05
-    Syntax,
+    Syntax = 5,
     /// E06
-    Directive,
+    Directive = 6,
     /// E07
-    IncludeDepth,
+    IncludeDepth = 7,
     /// E08
-    UnknownModule,
+    UnknownModule = 8,
     /// E09
-    DuplicateModule,
+    DuplicateModule = 9,
     /// E10
-    Recursive,
+    Recursive = 10,
     /// E11
-    LoopTooLong,
+    LoopTooLong = 11,
     /// E12
-    BadOverride,
+    BadOverride = 12,
     /// E13
-    NameClash,
+    NameClash = 13,
     /// E14
-    NotConstant,
+    NotConstant = 14,
     /// E15
-    ZeroDivisor,
+    ZeroDivisor = 15,
     /// E16
-    UnknownName,
+    UnknownName = 16,
     /// E17
-    DuplicateName,
+    DuplicateName = 17,
     /// E18
-    BadRange,
+    BadRange = 18,
     /// E19
-    PortMismatch,
+    PortMismatch = 19,
     /// E20
-    OtherClock,
+    OtherClock = 20,
     /// E21
-    ResetForm,
+    ResetForm = 21,
     /// E22
-    BlockingInClocked,
+    BlockingInClocked = 22,
     /// E23
-    NonblockingInComb,
+    NonblockingInComb = 23,
     /// E24
-    WideArithmetic,
+    WideArithmetic = 24,
     /// E25
-    MultipleDrivers,
+    MultipleDrivers = 25,
     /// E26
-    Latch,
+    Latch = 26,
     /// E27
-    ReadBeforeWrite,
+    ReadBeforeWrite = 27,
     /// E28
-    CombLoop,
+    CombLoop = 28,
     /// E29
-    ArrayUse,
+    ArrayUse = 29,
     /// C01
-    NoSuchModule,
+    NoSuchModule = 101,
     /// C02
-    NoSuchInput,
+    NoSuchInput = 102,
     /// C03
-    Clash,
+    Clash = 103,
     /// C04
-    PinValue,
+    PinValue = 104,
     /// C05
-    NoSuchRow,
+    NoSuchRow = 105,
     /// C06
-    BadKind,
+    BadKind = 106,
     /// C07
-    FieldCount,
+    FieldCount = 107,
     /// C08
-    NoConnection,
+    NoConnection = 108,
     /// C09
-    BadValue,
+    BadValue = 109,
     /// C10
-    DuplicateRow,
+    DuplicateRow = 110,
     /// C11
-    BadLatency,
+    BadLatency = 111,
     /// C12
-    NoSuchSignal,
+    NoSuchSignal = 112,
     /// C13
-    WidthMismatch,
+    WidthMismatch = 113,
     /// C14
-    BadPlan,
+    BadPlan = 114,
     /// C15
-    BadScript,
+    BadScript = 115,
     /// C16
-    BadTrace,
+    BadTrace = 116,
     /// C17
-    BadDimacs,
+    BadDimacs = 117,
     /// C18
-    BadLrat,
+    BadLrat = 118,
     /// C19
-    BadVcd,
+    BadVcd = 119,
     /// L01
-    FileBytes,
+    FileBytes = 201,
     /// L02
-    Tokens,
+    Tokens = 202,
     /// L03
-    Scopes,
+    Scopes = 203,
     /// L04
-    Weight,
+    Weight = 204,
     /// L05
-    Rows,
+    Rows = 205,
     /// L06
-    Conditions,
+    Conditions = 206,
     /// L07
-    Latency,
+    Latency = 207,
     /// L08
-    Candidates,
+    Candidates = 208,
     /// L09
-    Files,
+    Files = 209,
     /// L10
-    Ports,
+    Ports = 210,
 }
 
 impl Code {
@@ -255,6 +256,25 @@ impl Code {
             Code::Candidates => b"Candidates",
             Code::Files => b"Files",
             Code::Ports => b"Ports",
+        }
+    }
+
+    /// The most that a limit allows, which is passed where there is one more; 0 for a fault. Takes no memory.
+    pub fn bound(&self) -> u64
+        ensures { result ≡ spec.bound self.now }
+    {
+        match self {
+            Code::FileBytes => 16_777_216,
+            Code::Tokens => 4_194_304,
+            Code::Scopes => 65_536,
+            Code::Weight => 4_194_304,
+            Code::Rows => 10_000,
+            Code::Conditions => 32,
+            Code::Latency => 64,
+            Code::Candidates => 65_536,
+            Code::Files => 1_024,
+            Code::Ports => 65_536,
+            _ => 0,
         }
     }
 }
