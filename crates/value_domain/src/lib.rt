@@ -2,11 +2,11 @@
 #![tactic(auto)]
 
 mod domain;
-mod operators;
+pub mod operators;
 mod parts;
 mod plain;
 mod variable;
-mod words;
+pub mod words;
 
 pub use domain::Domain;
 pub use parts::{Word, concatenate, guarded, join, matched, narrowed, repeat};

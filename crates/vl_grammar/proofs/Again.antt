@@ -120,7 +120,7 @@ turned : (f least p : ℕ) (ts us rest : Tokens) (l x : Expr) (op : Token) → R
     → length rest ≤ length us → expr (suc f) (suc p) us ≡ Some (x, rest) → Reached (suc f) least ts (e.Binary op l x) rest
 turned f least p ts us rest l x op left at low shorter read = turned_by f least p ts us rest l x op left.turns left.enough left.same at low shorter read
 
-whole_list : (E : ℕ → Parser Expr) (xs : List Expr) (ts rest : Tokens) → Begun E xs ts rest → list E ts ≡ Some (xs, rest)
+pub whole_list : (E : ℕ → Parser Expr) (xs : List Expr) (ts rest : Tokens) → Begun E xs ts rest → list E ts ≡ Some (xs, rest)
 whole_list E xs ts rest begun =
     r.list_begins E begun.first ts begun.behind begun.reads ∙ begun.goes_on [] (length begun.behind) (omega arith)
 

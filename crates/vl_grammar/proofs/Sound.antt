@@ -131,7 +131,7 @@ module _ (E : ℕ → Parser Expr) (H : (n : ℕ) (ts rest : Tokens) (t : Expr) 
   unfolding list_after
   list_after_sound x xs ts us rest d h = list_from_sound (length us) (x ∷ []) xs ts us rest (one d) h
 
-  list_sound : (xs : List Expr) (ts rest : Tokens) → list E ts ≡ got xs rest → Listed xs ts rest
+  pub list_sound : (xs : List Expr) (ts rest : Tokens) → list E ts ≡ got xs rest → Listed xs ts rest
   unfolding list
   list_sound xs ts rest h = let i = split (E 0 ts) _ _ h in list_after_sound i.value xs ts i.behind rest (H 0 ts i.behind i.value i.was) i.goes
 

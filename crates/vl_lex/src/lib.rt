@@ -2,7 +2,7 @@
 #![tactic(auto)]
 
 mod branches;
-mod bytes;
+pub mod bytes;
 mod directives;
 mod expansion;
 mod files;
@@ -10,7 +10,7 @@ mod gate;
 mod laws;
 mod lexer;
 mod macros;
-mod numbers;
+pub mod numbers;
 mod pieces;
 mod preprocessor;
 mod state;

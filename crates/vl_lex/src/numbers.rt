@@ -22,7 +22,7 @@ fn digit_value(byte: u8) -> u8
     }
 }
 
-fn is_free(byte: u8) -> bool
+pub fn is_free(byte: u8) -> bool
     ensures { result ≡ spec.is_free byte }
 {
     byte == b'z' || byte == b'Z' || byte == b'?'
@@ -59,7 +59,7 @@ fn all_fit(base: u8, digits: &[u8]) -> bool
 }
 
 /// The base of a base letter.
-fn base_of(letter: u8) -> u8
+pub fn base_of(letter: u8) -> u8
     ensures value { result ≡ spec.base_of letter }
     ensures there { 0 < result }
 {
@@ -83,7 +83,7 @@ fn next_value(before: u128, base: u8, byte: u8) -> Option<u128>
 
 /// The value of some digits, none from 2^128 on. Linear in the digits.
 #[tactic(auto, using(crate::proofs::Values::values))]
-fn value_of(base: u8, digits: &[u8]) -> Option<u128>
+pub fn value_of(base: u8, digits: &[u8]) -> Option<u128>
     requires { 0 < base }
     ensures { SomeIff result (spec.value_from base 0 digits.now < 2 ^ 128) (spec.value_from base 0 digits.now) }
 {
@@ -134,7 +134,7 @@ fn digits_are_bad(base: u8, digits: &[u8]) -> bool
         || is_too_large(base, digits)
 }
 
-fn behind_blanks(bytes: &[u8]) -> &[u8]
+pub fn behind_blanks(bytes: &[u8]) -> &[u8]
     ensures { result.now ≡ spec.behind_blanks bytes.now }
 {
     rest_from(bytes, between_len(bytes))
@@ -146,7 +146,7 @@ fn between_len(bytes: &[u8]) -> usize
     bytes.iter().take_while(|byte| !is_based(**byte)).count()
 }
 
-fn size_len(bytes: &[u8]) -> usize
+pub fn size_len(bytes: &[u8]) -> usize
     ensures { result ≡ prefix_len spec.before_tick bytes.now }
 {
     bytes.iter().take_while(|byte| **byte != b'\'').count()

@@ -21,7 +21,8 @@ use Rattle.vl_size.specs.declared.tree.Narrow.{Narrow}
 use Rattle.vl_size.specs.declared.tree.Narrow.TheVariants as narrow
 use Rattle.vl_size.specs.Texts.{capped, number_size}
 use Rattle.vl_size.specs.declared.tree.Sizing.{Sizing}
-use Rattle.vl_size.specs.Sizings.{sizing_of, length_of, signed_of, lower, where_true, faults_of, are_constant, is_some_empty}
+use Rattle.vl_tree.specs.Order.{lower, where_true}
+use Rattle.vl_size.specs.Sizings.{sizing_of, length_of, signed_of, faults_of, are_constant, is_some_empty}
 
 abbrev pub sizes : ℕ → Bool → Size
 sizes n s = record { length = n; signed = s }
@@ -143,8 +144,21 @@ is_bad_count (Some (pos k)) = false
 is_bad_count (Some (negsuc k)) = true
 is_bad_count None = true
 
+-- so many copies of the parts, which may be none
+abbrev pub copies_node : Option ℤ → List Sizing → Node
+copies_node count ps = node_made (sizes (times count (total ps)) false) Apart narrow.Nothing true (where_true (is_bad_count count || nat_eq (total ps) 0) BadRange) ps
+
+abbrev pub is_no_copy : Option ℤ → Bool
+is_no_copy (Some (pos k)) = nat_eq k 0
+is_no_copy (Some (negsuc k)) = false
+is_no_copy None = false
+
+abbrev pub constant_where : Bool → Node → Node
+constant_where gone n = record { size = n.size; least = n.least; operands = n.operands; narrow = n.narrow; constant = n.constant || gone; fault = n.fault }
+
+-- What is copied no time is dropped, so it reads nothing: the expression is constant whatever its parts are.
 abbrev pub repeat_node : Option ℤ → List Sizing → Sizing
-repeat_node count ps = made (sizes (times count (total ps)) false) Apart narrow.Nothing true (where_true (is_bad_count count || nat_eq (total ps) 0) BadRange) ps
+repeat_node count ps = sizing_of (constant_where (is_no_copy count) (copies_node count ps)) ps
 
 abbrev pub is_kind : NameKind → NameKind → Bool
 is_kind = sameb the_type

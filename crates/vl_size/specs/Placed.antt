@@ -1,10 +1,7 @@
 -- An expression in a context: each part has its length and sign, and arithmetic on more than 128 bits is found.
-use Rattle.std.specs.Prelude.{⊤, ℕ, max, Bool, true, false, ◌&&◌, ◌||◌, not, nat_lt, nat_eq, List, [], ◌∷◌, map, ◌≡◌, Option, Some, None, Result, Ok, Err, if◌then◌else◌}
+use Rattle.std.specs.Prelude.{ℕ, max, Bool, true, false, ◌&&◌, ◌||◌, not, nat_lt, nat_eq, List, [], ◌∷◌, map, Option, if◌then◌else◌}
 use Rattle.vl_tree.specs.declared.faults.Code.{Code}
 use Rattle.vl_tree.specs.declared.faults.Code.TheVariants.{BadRange, WideArithmetic}
-use Rattle.vl_tree.specs.declared.faults.Stop.{Stop}
-use Rattle.vl_tree.specs.declared.faults.Stop.TheVariants as stop
-use Rattle.vl_tree.specs.declared.faults.Place.TheVariants as place
 use Rattle.vl_size.specs.declared.constant.Const.{Const}
 use Rattle.vl_size.specs.declared.sizes.SizedExpr.{SizedExpr, roll-SizedExpr}
 use Rattle.vl_size.specs.declared.tree.Size.{Size}
@@ -16,7 +13,9 @@ use Rattle.vl_size.specs.Tables.{Look}
 use Rattle.vl_size.specs.Terms.{Term}
 use Rattle.vl_size.specs.declared.tree.Node.{Node}
 use Rattle.vl_size.specs.declared.tree.Sizing.{Sizing, Sizing-F, fold-Sizing}
-use Rattle.vl_size.specs.Sizings.{node_of, length_of, signed_of, lower, where_true, common}
+use Rattle.vl_tree.specs.Order.{lower, where_true}
+use Rattle.vl_tree.specs.Outcomes.{Outcome, unless}
+use Rattle.vl_size.specs.Sizings.{node_of, length_of, signed_of, common}
 use Rattle.vl_size.specs.Nodes.{sizes}
 use Rattle.vl_size.specs.Owns.{own}
 
@@ -97,17 +96,6 @@ is_bad_whole n t = nat_eq (length_of t) 0 || nat_lt 65536 n
 abbrev pub lowest : ℕ → Sizing → Option Code
 lowest n t = lower (node_of t).fault (lower (where_true (is_bad_whole n t) BadRange) (where_true ((placing t).wide (widened n t)) WideArithmetic))
 
-abbrev pub or_fault : Option Code → SizedExpr → Result SizedExpr Code
-or_fault None x = Ok x
-or_fault (Some c) x = Err c
-
 -- the expression with a length and a sign at each part, or the lowest code among its faults
-abbrev pub sizing : Look → List Const → ℕ → Term → Result SizedExpr Code
-sizing look cs n t = or_fault (lowest n (own look t cs).0) ((placing (own look t cs).0).sized (widened n (own look t cs).0))
-
--- a function gives this, unless memory is wanting; the place of a fault is the empty path
-abbrev pub Gives : Result SizedExpr Stop → Result SizedExpr Code → Type 0
-Gives (Ok x) outcome = outcome ≡ Ok x
-Gives (Err (stop.Fault f)) outcome = (outcome ≡ Err f.code) × (f.place ≡ place.Path [])
-Gives (Err (stop.Limit c)) outcome = ⊥
-Gives (Err stop.NoMemory) outcome = ⊤
+abbrev pub sizing : Look → List Const → ℕ → Term → Outcome SizedExpr
+sizing look cs n t = unless (lowest n (own look t cs).0) ((placing (own look t cs).0).sized (widened n (own look t cs).0))

@@ -1,7 +1,7 @@
 -- Expressions before they have a context: what is known of each, and of several.
-use Rattle.std.specs.Prelude.{ℕ, max, Bool, true, false, ◌&&◌, ◌||◌, nat_lt, nat_eq, List, [], ◌∷◌, Option, Some, None, if◌then◌else◌}
+use Rattle.std.specs.Prelude.{ℕ, max, Bool, true, false, ◌&&◌, ◌||◌, nat_eq, List, [], ◌∷◌, Option, None}
 use Rattle.vl_tree.specs.declared.faults.Code.{Code}
-use Rattle.vl_tree.specs.declared.faults.Code.TheVariants as code
+use Rattle.vl_tree.specs.Order.{lower}
 use Rattle.vl_size.specs.declared.tree.Size.{Size}
 use Rattle.vl_size.specs.declared.tree.Node.{Node}
 use Rattle.vl_size.specs.declared.tree.Sizing.{Sizing, out-Sizing, roll-Sizing}
@@ -20,24 +20,6 @@ length_of s = (node_of s).size.length
 
 abbrev pub signed_of : Sizing → Bool
 signed_of s = (node_of s).size.signed
-
--- the order of the codes that an expression can be refused with
-abbrev pub rank : Code → ℕ
-rank code.UnknownName = 16
-rank code.BadRange = 18
-rank code.WideArithmetic = 24
-rank _ = 0
-
--- the lower of two codes, where there are any
-abbrev pub lower : Option Code → Option Code → Option Code
-lower None o = o
-lower (Some c) None = Some c
-lower (Some c) (Some d) = if nat_lt (rank d) (rank c) then Some d else Some c
-
--- the code, where the test is true
-abbrev pub where_true : Bool → Code → Option Code
-where_true true c = Some c
-where_true false c = None
 
 -- the lowest of a code and those of all parts
 abbrev pub faults_after : Option Code → List Sizing → Option Code

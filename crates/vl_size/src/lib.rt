@@ -6,14 +6,16 @@ mod laws;
 mod nodes;
 mod numbers;
 mod operators;
-mod own;
-mod placed;
+pub mod own;
+pub mod placed;
 mod sizes;
 mod table;
 mod tree;
 
-pub use constant::{Const, CountList};
+pub use constant::{Const, CountList, behind_next, next_value, whole};
 pub use laws::operands_share;
+pub use nodes::{concat_node, is_falling, total, width_of};
+pub use numbers::{capped, number_size};
 pub use operators::{
     BinaryOperator, SystemFunction, UnaryOperator, binary_operator, system_function, unary_operator,
 };

@@ -2,7 +2,7 @@ ghost use Rattle.std.specs.Prelude.{◌≡◌, ◌∷◌, [], ◌≤◌, ◌*◌
 ghost use Rattle.vl_size.specs.Texts.{capped as capped_of};
 ghost use Rattle.std.specs.Option.{option_copied};
 ghost use Rattle.vl_size.specs.Nodes as spec;
-ghost use Rattle.vl_size.specs.Sizings.{lower as lower_of, where_true as code_where, faults_of as lowest_of, are_constant as all_constant, is_some_empty as any_empty, rank as rank_of};
+ghost use Rattle.vl_size.specs.Sizings.{sizing_of, faults_of as lowest_of, are_constant as all_constant, is_some_empty as any_empty};
 
 use crate::numbers::{capped, number_size};
 use crate::operators::{BinaryOperator, SystemFunction, UnaryOperator};
@@ -10,44 +10,7 @@ use crate::table::{NameKind, SizeEntry};
 use crate::tree::{Narrow, Node, Operands, Size, Sizing};
 use bits_core::{Items, NoMemory};
 use std::alloc::Global;
-use vl_tree::Code;
-
-fn rank(code: Code) -> u8
-    ensures { result ≡ rank_of code }
-{
-    match code {
-        Code::UnknownName => 16,
-        Code::BadRange => 18,
-        Code::WideArithmetic => 24,
-        _ => 0,
-    }
-}
-
-/// The lower of two codes, where there are any.
-pub fn lower(first: Option<Code>, second: Option<Code>) -> Option<Code>
-    ensures { result ≡ lower_of first second }
-{
-    match first {
-        None => second,
-        Some(code) => match second {
-            None => first,
-            Some(other) => {
-                if rank(other) < rank(code) {
-                    second
-                } else {
-                    first
-                }
-            }
-        },
-    }
-}
-
-/// The code, where the test is true.
-pub fn where_true(test: bool, code: Code) -> Option<Code>
-    ensures { result ≡ code_where test code }
-{
-    if test { Some(code) } else { None }
-}
+use vl_tree::{Code, lower, where_true};
 
 fn faults_of(parts: &[Sizing]) -> Option<Code>
     ensures { result ≡ lowest_of parts.now }
@@ -288,7 +251,7 @@ pub fn group_node(alloc: Global, a: Sizing) -> Result<Sizing, NoMemory>
 }
 
 /// The sum of the lengths, capped.
-fn total(parts: &[Sizing]) -> u32
+pub fn total(parts: &[Sizing]) -> u32
     ensures value { result ≡ spec.total parts.now }
     ensures most { result ≤ 65537 }
 {
@@ -356,9 +319,17 @@ fn is_bad_count(count: Option<i64>) -> bool
     }
 }
 
-/// Expressions one behind the other, as often as a count says.
-pub fn repeat_node(count: Option<i64>, parts: Items<Sizing>) -> Sizing
-    ensures { result ≡ spec.repeat_node count parts }
+fn is_no_copy(count: Option<i64>) -> bool
+    ensures { result ≡ spec.is_no_copy count }
+{
+    match count {
+        None => false,
+        Some(number) => number == 0,
+    }
+}
+
+fn copies_of(count: Option<i64>, parts: Items<Sizing>) -> Sizing
+    ensures { result ≡ sizing_of (spec.copies_node count parts) parts }
 {
     let inner = total(parts.as_slice());
     let size = Size {
@@ -367,6 +338,21 @@ pub fn repeat_node(count: Option<i64>, parts: Items<Sizing>) -> Sizing
     };
     let fault = where_true(is_bad_count(count) || inner == 0, Code::BadRange);
     made(size, Operands::Apart, Narrow::Nothing, true, fault, parts)
+}
+
+/// Expressions one behind the other, as often as a count says. What is copied no time is dropped, and so is constant.
+pub fn repeat_node(count: Option<i64>, parts: Items<Sizing>) -> Sizing
+    ensures { result ≡ spec.repeat_node count parts }
+{
+    let copies = copies_of(count, parts);
+    let node = Node {
+        constant: copies.node.constant || is_no_copy(count),
+        ..copies.node
+    };
+    Sizing {
+        node,
+        parts: copies.parts,
+    }
 }
 
 fn is_kind(kind: NameKind, other: NameKind) -> bool
@@ -434,7 +420,8 @@ fn is_bare(entry: &SizeEntry) -> bool
     is_kind(entry.kind, NameKind::Signal) && (!entry.ranged && entry.length == 1)
 }
 
-fn is_falling(entry: &SizeEntry) -> bool
+/// Whether the range of a name falls: its left bound is not below its right one, or it has none.
+pub fn is_falling(entry: &SizeEntry) -> bool
     ensures { result ≡ spec.is_falling entry.now }
 {
     !entry.ranged || !(entry.high < entry.low)
@@ -475,7 +462,8 @@ pub fn index_node(
     Ok(select_node(entry, 1, false, one(alloc, index)?))
 }
 
-fn width_of(width: Option<i64>) -> u32
+/// A width of 1 or more.
+pub fn width_of(width: Option<i64>) -> u32
     ensures { result ≡ spec.width_of width }
 {
     match width {

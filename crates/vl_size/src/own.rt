@@ -44,7 +44,8 @@ fn inputs_of(entry: Option<&SizeEntry>) -> &[u32]
     }
 }
 
-fn at_least(least: u32, part: Sizing) -> Sizing
+/// A part that goes to an input of so many bits.
+pub fn at_least(least: u32, part: Sizing) -> Sizing
     ensures { result ≡ spec.at_least least part }
 {
     let node = Node { least, ..part.node };
@@ -110,8 +111,9 @@ pub fn own<'c, S: Sizes>(
     }
 }
 
+/// A name with its selects.
 #[cycle(own)]
-fn own_picks<'c, S: Sizes>(
+pub fn own_picks<'c, S: Sizes>(
     alloc: Global,
     names: &S,
     entry: Option<&SizeEntry>,

@@ -4,7 +4,7 @@ ghost use Rattle.vl_size.specs.Sizings.{common as common_of, node_of};
 ghost use Rattle.vl_size.specs.Placed.{placing};
 
 use crate::sizes::SizedExpr;
-use crate::tree::{Narrow, Operands, Size, Sizing};
+use crate::tree::{Narrow, Node, Operands, Size, Sizing};
 use bits_core::{Items, NoMemory};
 use std::alloc::Global;
 
@@ -15,7 +15,7 @@ fn longer(a: u32, b: u32) -> u32
 }
 
 /// The largest length of the parts, with a sign where all have one.
-fn common(parts: &[Sizing]) -> Size
+pub fn common(parts: &[Sizing]) -> Size
     ensures { result ≡ common_of (map node_of parts.now) }
 {
     let mut length: u32 = 0;
@@ -27,26 +27,27 @@ fn common(parts: &[Sizing]) -> Size
     Size { length, signed }
 }
 
-fn alone(part: &Sizing) -> Size
-    ensures { result ≡ spec.alone (node_of part.now) }
+/// The context of an expression by itself.
+pub fn alone(node: Node) -> Size
+    ensures { result ≡ spec.alone node }
 {
-    let length = longer(part.node.least, part.node.size.length);
     Size {
-        length,
-        signed: part.node.size.signed,
+        length: longer(node.least, node.size.length),
+        signed: node.size.signed,
     }
 }
 
 /// What the parts of an expression have for a context.
 #[derive(Clone, Copy)]
-struct Outer {
-    operands: Operands,
-    common: Size,
-    context: Size,
+pub struct Outer {
+    pub operands: Operands,
+    pub common: Size,
+    pub context: Size,
 }
 
-fn context_of(outer: Outer, first: bool, part: &Sizing) -> Size
-    ensures { result ≡ spec.context outer.operands outer.common outer.context first (node_of part.now) }
+/// The context of a part, the first one or another.
+pub fn context_of(outer: Outer, first: bool, part: Node) -> Size
+    ensures { result ≡ spec.context outer.operands outer.common outer.context first part }
 {
     match outer.operands {
         Operands::Apart => alone(part),
@@ -87,7 +88,7 @@ fn is_wide_index(parts: &[Sizing]) -> bool
 }
 
 /// Whether the expression itself is arithmetic on more than 128 bits.
-fn is_wide(narrow: Narrow, context: Size, common: Size, parts: &[Sizing]) -> bool
+pub fn is_wide(narrow: Narrow, context: Size, common: Size, parts: &[Sizing]) -> bool
     requires { common ≡ common_of (map node_of parts.now) }
     ensures { result ≡ spec.is_wide narrow context (map node_of parts.now) }
 {
@@ -143,7 +144,7 @@ fn placed_parts(
     let mut wide = here;
     let mut first = true;
     for part in parts {
-        let (sized, below) = placed(alloc, part, context_of(outer, first, part))?;
+        let (sized, below) = placed(alloc, part, context_of(outer, first, part.node))?;
         all.push(sized)?;
         wide = either(wide, below);
         first = false;

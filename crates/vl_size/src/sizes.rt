@@ -1,17 +1,17 @@
-ghost use Rattle.std.specs.Prelude.{◌≡◌};
+ghost use Rattle.std.specs.Prelude.{◌≡◌, []};
+ghost use Rattle.vl_tree.specs.Outcomes.{GivesAt};
 ghost use Rattle.vl_size.specs.Placed as spec;
 ghost use Rattle.vl_size.specs.Terms.{term};
 ghost use Rattle.vl_size.specs.Tables.{first};
 
 use crate::constant::CountList;
-use crate::nodes::{lower, where_true};
 use crate::own::own;
 use crate::placed::placed;
 use crate::table::{SizeTable, Sizes};
 use crate::tree::{Size, Sizing};
 use bits_core::{Items, Name};
 use std::alloc::Global;
-use vl_tree::{Code, Expr, Fault, Place, Stop};
+use vl_tree::{Code, Expr, Fault, Place, Stop, lower, where_true};
 
 /// An expression with the length in bits and the sign that each part has in its context. Its parts are its operands from the left, an index and an
 /// argument among them; what a `CountList` holds is no part.
@@ -37,7 +37,7 @@ pub fn size(
     counts: &CountList,
     context: u32,
 ) -> Result<SizedExpr, Stop>
-    ensures { spec.Gives result (spec.sizing (λ name. first name names.now.entries) counts.now context (term expr.now)) }
+    ensures { GivesAt [] result (spec.sizing (λ name. first name names.now.entries) counts.now context (term expr.now)) }
 {
     size_in(alloc, expr, names, counts, context)
 }
@@ -50,7 +50,7 @@ pub fn size_in<S: Sizes>(
     counts: &CountList,
     context: u32,
 ) -> Result<SizedExpr, Stop>
-    ensures { spec.Gives result (spec.sizing (S.look names.now) counts.now context (term expr.now)) }
+    ensures { GivesAt [] result (spec.sizing (S.look names.now) counts.now context (term expr.now)) }
 {
     let (sizing, _) = own(alloc, names, expr, counts.as_slice())?;
     let outer = widened(context, &sizing);
