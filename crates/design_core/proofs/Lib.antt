@@ -9,3 +9,6 @@ pub mod TermLaws
 pub mod LeastNeeds
 pub mod FormedLaws
 pub mod SizeLaws
+pub mod TreeInduction
+pub mod RenumberedLaws
+pub mod MentionLaws

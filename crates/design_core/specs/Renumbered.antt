@@ -51,31 +51,34 @@ abbrev pub function_renumbered : DFunction-F DLeft DNode DStmt DArm DExpr DFunct
 function_renumbered x = record { length = x.length; signed = x.signed; inputs = x.inputs; locals = x.locals; body = x.body }
 
 -- the folds with these steps
-abbrev pub renumbered_expr : (ℕ → ℕ) → DExpr → DExpr
+unfoldable pub renumbered_expr : (ℕ → ℕ) → DExpr → DExpr
 renumbered_expr ρ = fold-DExpr DLeft DNode DStmt DArm DExpr DFunction DMatch (left_renumbered ρ) (node_renumbered ρ) roll-DStmt roll-DArm expr_renumbered function_renumbered roll-DMatch
 
-abbrev pub renumbered_node : (ℕ → ℕ) → DNode → DNode
+unfoldable pub renumbered_node : (ℕ → ℕ) → DNode → DNode
 renumbered_node ρ = fold-DNode DLeft DNode DStmt DArm DExpr DFunction DMatch (left_renumbered ρ) (node_renumbered ρ) roll-DStmt roll-DArm expr_renumbered function_renumbered roll-DMatch
 
-abbrev pub renumbered_left : (ℕ → ℕ) → DLeft → DLeft
+unfoldable pub renumbered_left : (ℕ → ℕ) → DLeft → DLeft
 renumbered_left ρ = fold-DLeft DLeft DNode DStmt DArm DExpr DFunction DMatch (left_renumbered ρ) (node_renumbered ρ) roll-DStmt roll-DArm expr_renumbered function_renumbered roll-DMatch
 
-abbrev pub renumbered_stmt : (ℕ → ℕ) → DStmt → DStmt
+unfoldable pub renumbered_stmt : (ℕ → ℕ) → DStmt → DStmt
 renumbered_stmt ρ = fold-DStmt DLeft DNode DStmt DArm DExpr DFunction DMatch (left_renumbered ρ) (node_renumbered ρ) roll-DStmt roll-DArm expr_renumbered function_renumbered roll-DMatch
 
-abbrev pub renumbered_arm : (ℕ → ℕ) → DArm → DArm
+unfoldable pub renumbered_arm : (ℕ → ℕ) → DArm → DArm
 renumbered_arm ρ = fold-DArm DLeft DNode DStmt DArm DExpr DFunction DMatch (left_renumbered ρ) (node_renumbered ρ) roll-DStmt roll-DArm expr_renumbered function_renumbered roll-DMatch
 
-abbrev pub renumbered_function : (ℕ → ℕ) → DFunction → DFunction
+unfoldable pub renumbered_function : (ℕ → ℕ) → DFunction → DFunction
 renumbered_function ρ = fold-DFunction DLeft DNode DStmt DArm DExpr DFunction DMatch (left_renumbered ρ) (node_renumbered ρ) roll-DStmt roll-DArm expr_renumbered function_renumbered roll-DMatch
 
-abbrev pub renumbered_match : (ℕ → ℕ) → DMatch → DMatch
+unfoldable pub renumbered_match : (ℕ → ℕ) → DMatch → DMatch
 renumbered_match ρ = fold-DMatch DLeft DNode DStmt DArm DExpr DFunction DMatch (left_renumbered ρ) (node_renumbered ρ) roll-DStmt roll-DArm expr_renumbered function_renumbered roll-DMatch
 
 -- a reset and an item under other numbers of signals; the weight of an item is kept
+abbrev pub reset_again : (ℕ → ℕ) → DReset → DReset
+reset_again ρ r = record { bit = moved ρ r.bit; asserted = r.asserted; test = renumbered_expr ρ r.test; branch = renumbered_stmt ρ r.branch }
+
 abbrev pub renumbered_reset : (ℕ → ℕ) → Option DReset → Option DReset
 renumbered_reset ρ None = None
-renumbered_reset ρ (Some r) = Some (record { bit = moved ρ r.bit; asserted = r.asserted; test = renumbered_expr ρ r.test; branch = renumbered_stmt ρ r.branch })
+renumbered_reset ρ (Some r) = Some (reset_again ρ r)
 
 abbrev pub renumbered_item : (ℕ → ℕ) → Item → Item
 renumbered_item ρ (item.Assign scope weight l e) = item.Assign scope weight (renumbered_left ρ l) (renumbered_expr ρ e)
