@@ -73,8 +73,26 @@ pub record Extends (old new : List Node) : Type 0 where
   pub longer : length old ≤ length new
   pub same : (n : ℕ) (v : ℕ → Bool) → n < length old → value new v n ≡ value old v n
 
+-- a net that has grown by gates alone: its nodes keep their values, and it has the leaves that it had
+pub record Gated (old new : List Node) : Type 0 where
+  pub longer : length old ≤ length new
+  pub same : (n : ℕ) (v : ℕ → Bool) → n < length old → value new v n ≡ value old v n
+  pub leaves : (i : ℕ) → has_leaf new i ≡ has_leaf old i
+
 -- a node of the new net with the gate's value over the old one's
 pub record IsPushed (old : List Node) (node : Node) (new : List Node) (at : ℕ) : Type 0 where
   pub within : at < length new
   pub worth : (v : ℕ → Bool) → value new v at ≡ gate_value v (value old v) node
   pub leaves : (i : ℕ) → has_leaf new i ≡ (has_leaf old i || is_leaf i node)
+
+-- the value of a node is its gate's over the values of the nodes that it reads
+abbrev pub NodesAreGates : Type 0
+NodesAreGates = (net : List Node) (v : ℕ → Bool) (k : ℕ) (node : Node) → AllRead 0 net → k < length net → value net v k ≡ gate_value v (value net v) (slice_index_or net k node)
+
+-- valuations that agree on the leaves of a net give its nodes the same values
+abbrev pub LeavesDecide : Type 0
+LeavesDecide = (net : List Node) (v w : ℕ → Bool) → ((i : ℕ) → has_leaf net i ≡ true → v i ≡ w i) → (k : ℕ) → value net v k ≡ value net w k
+
+-- a variable whose value some node has under each valuation is a leaf of the net
+abbrev pub WorthIsLeaf : Type 0
+WorthIsLeaf = (net : List Node) (k i : ℕ) → ((v : ℕ → Bool) → value net v k ≡ v i) → has_leaf net i ≡ true

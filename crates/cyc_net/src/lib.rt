@@ -2,10 +2,12 @@
 #![tactic(auto)]
 
 mod cycle;
+mod laws;
 mod net;
 mod node;
 
 pub use cycle::{BitLeaf, BitNode, CycleNet, LeafList, NodeList};
+pub use laws::{leaves_decide, nodes_are_gates, worth_is_leaf};
 pub use net::Net;
 pub use node::{Node, NodeId};
 

@@ -1,5 +1,5 @@
 ghost use Rattle.std.specs.Prelude.{◌≡◌, ℕ, ◌<◌, ◌≤◌, ◌^◌, [], ◌∷◌, Bool, false, true, length, slice_index_or, IfOk, OnErr};
-ghost use Rattle.cyc_net.specs.Nets.{value, run, bit_at, gate_value, AllRead, ReadsBelow, LeavesBelow, LeafBelow, Extends, IsPushed, has_leaf};
+ghost use Rattle.cyc_net.specs.Nets.{value, run, bit_at, gate_value, AllRead, ReadsBelow, LeavesBelow, LeafBelow, Extends, Gated, IsPushed, has_leaf, is_leaf};
 
 use crate::node::{Node, NodeId};
 use bits_core::NoMemory;
@@ -81,6 +81,7 @@ impl Net {
         requires { ReadsBelow (length self.old) node }
         ensures made { IfOk result (λ at. IsPushed self.old node self.new at) }
         ensures kept { Extends self.old self.new }
+        ensures gated { ((i : ℕ) → is_leaf i node ≡ false) → Gated self.old self.new }
         ensures err { OnErr result (self.new ≡ self.old) }
     {
         let at = self.nodes.len();

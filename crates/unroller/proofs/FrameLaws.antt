@@ -1,7 +1,7 @@
 -- One more cycle.
-use Rattle.std.proofs.Common.{◌≡◌, ℕ, ◌+◌, ◌<◌, ◌≤◌, ◌||◌, Bool, true, false, cond, eqb, ltb, List, [], ◌∷◌, ◌++◌, map, length, get_or, take, arith, refl, sym, ap, subst, ◌∙◌, Option, Some, None, zero, suc, inl, inr, length-append, add-one}
+use Rattle.std.proofs.Common.{◌≡◌, ℕ, ◌+◌, ◌<◌, ◌≤◌, ◌^◌, ◌||◌, Bool, true, false, cond, eqb, ltb, List, [], ◌∷◌, ◌++◌, map, length, get_or, take, arith, refl, sym, ap, subst, ◌∙◌, Option, Some, None, zero, suc, inl, inr, length-append, add-one}
 use Rattle.std.specs.List.{fold}
-use Rattle.std.proofs.lemmas.Bool.{cond-true, cond-false, eq-eqb, ne_eqb, cases_eq, cases_lt, le-ltb, false≢true}
+use Rattle.std.proofs.lemmas.Bool.{cond-true, cond-false, eq-eqb, ne_eqb, cases_eq, cases_lt, lt-ltb, le-ltb, false≢true}
 use Rattle.cyc_net.specs.declared.node.Node.{Node}
 use Rattle.cyc_net.specs.declared.cycle.BitLeaf.{BitLeaf}
 use Rattle.cyc_net.specs.declared.cycle.BitNode.{BitNode}
@@ -10,11 +10,12 @@ use Rattle.cyc_net.specs.Nets.{value, has_leaf, is_leaf, LeafBelow, LeavesBelow,
 use Rattle.cyc_net.specs.declared.node.Node.TheVariants as node
 use Rattle.cyc_net.specs.Cycles as cycles
 use Rattle.cyc_net.specs.Cycles.{IsCycleNet}
-use Rattle.cyc_net.proofs.NetLaws.{Extends-trans}
+use Rattle.cyc_net.proofs.NetLaws.{Extends-trans, has_below, leaves_fit}
 use Rattle.unroller.specs.declared.setup.Fixed.{Fixed}
 use Rattle.unroller.specs.declared.setup.StartState.{StartState}
 use Rattle.unroller.specs.declared.setup.StartState.TheVariants.{Free, PowerUp}
-use Rattle.unroller.specs.Setups.{leaf_of, bit_of, bit_at, node_at, next_of, fixed_at, StartsAt, Trace, IsTrace, Place, state_places, free_place, input_places, places, Agree, AreFrames, IsUnrolled}
+use Rattle.cyc_net.specs.Cycles.{leaf_of, bit_of, bit_at, node_at, node_of, next_of, or_zero}
+use Rattle.unroller.specs.Setups.{fixed_at, StartsAt, Trace, IsTrace, Place, state_places, free_place, input_places, places, Agree, AreFrames, IsUnrolled}
 use Rattle.unroller.specs.Steps.{AreNodes, Started, Given, Copied, Reached, Before}
 use Rattle.unroller.specs.Tables.{read_node}
 use Rattle.unroller.proofs.StepLaws.{across_by, at_most_one}
@@ -83,13 +84,13 @@ node_below n [] k all lt = absurd (omega arith)
 node_below n (p ∷ ps) zero all lt = all.0
 node_below n (p ∷ ps) (suc k) all lt = node_below n ps k all.1 (omega arith)
 
-pick_below : (n : ℕ) (b : Bool) (x y : ℕ) → x < n → y < n → cond b x y < n
-pick_below n true x y h k = h
-pick_below n false x y h k = k
+pick_below : (n : ℕ) (c : Bool) (x : ℕ) (o : Option ℕ) → x < n → or_zero o < n → or_zero (cond c (Some x) o) < n
+pick_below n true x o h k = h
+pick_below n false x o h k = k
 
-next_below : (n b x : ℕ) (ps : List BitNode) → x < n → cycles.AreNodes n ps → fold (λ (m : ℕ) (p : BitNode). cond (eqb b p.bit) p.node m) x ps < n
-next_below n b x [] h all = h
-next_below n b x (p ∷ ps) h all = next_below n b (cond (eqb b p.bit) p.node x) ps (pick_below n (eqb b p.bit) p.node x all.0 h) all.1
+next_below : (n b : ℕ) (ps : List BitNode) → 0 < n → cycles.AreNodes n ps → next_of ps b < n
+next_below n b [] h all = h
+next_below n b (p ∷ ps) h all = pick_below n (eqb p.bit b) p.node (node_of ps b) all.0 (next_below n b ps h all.1)
 
 abbrev framed : List ℕ → List BitNode → List BitNode
 framed copies bits = map (λ (p : BitNode). record { bit = p.bit; node = read_node copies p.node }) bits
@@ -154,7 +155,7 @@ module _ (c : CycleNet) (setup : Fixed) (start : StartState) (t : ℕ) (net0 net
   longer = omega (arith, length-append frames (frame ∷ []), b.long)
 
   next_in : (k : ℕ) → next_of c.nexts (bit_of c.states k) < length c.net
-  next_in k = next_below (length c.net) (bit_of c.states k) 0 c.nexts (omega arith) is.next_nodes
+  next_in k = next_below (length c.net) (bit_of c.states k) c.nexts (omega arith) is.next_nodes
 
   node_in : (k : ℕ) → k < length c.bits → node_at c.bits k < length c.net
   node_in k lt = node_below (length c.net) c.bits k is.bit_nodes lt
@@ -268,30 +269,13 @@ before_start c setup start old net sources leaves s = record {
 below_true : (i n : ℕ) → ltb i n ≡ true → i < n
 below_true i n h = elim (cases_lt i n) [ inl lt ↦ lt | inr ge ↦ absurd (false≢true (sym (le-ltb i n ge) ∙ h)) ]
 
-or_here : (x y : Bool) → x ≡ true → (x || y) ≡ true
-or_here x y h = ap (λ (b : Bool). b || y) h
-
-or_there : (x y : Bool) → y ≡ true → (x || y) ≡ true
-or_there true y h = refl
-or_there false y h = h
-
-leaf_below : (n : ℕ) (x : Node) → ((i : ℕ) → is_leaf i x ≡ true → i < n) → LeafBelow n x
-leaf_below n (node.Const b) h = tt
-leaf_below n (node.Leaf i) h = h i (eq-eqb i i refl)
-leaf_below n (node.And a b) h = tt
-leaf_below n (node.Xor a b) h = tt
-leaf_below n (node.Mux c a b) h = tt
-
-leaves_below : (n : ℕ) (net : List Node) → ((i : ℕ) → has_leaf net i ≡ true → i < n) → LeavesBelow n net
-leaves_below n [] h = tt
-leaves_below n (x ∷ xs) h = (leaf_below n x (λ i e. h i (or_here (is_leaf i x) (has_leaf xs i) e)), leaves_below n xs (λ i e. h i (or_there (is_leaf i x) (has_leaf xs i) e)))
-
-pub unrolled_end : (c : CycleNet) (setup : Fixed) (start : StartState) (t n : ℕ) (net : List Node) (sources : List ℕ) (leaves : ℕ) (frames : List (List BitNode)) → t ≡ n → Before c setup start t net sources leaves frames → IsUnrolled c setup n start (record { net = net; leaves = leaves; frames = frames })
-unrolled_end c setup start t n net sources leaves frames e b = record {
+pub unrolled_end : (c : CycleNet) (setup : Fixed) (start : StartState) (t n : ℕ) (net : List Node) (sources : List ℕ) (leaves : ℕ) (frames : List (List BitNode)) → t ≡ n → length net ≤ 2 ^ 27 → Before c setup start t net sources leaves frames → IsUnrolled c setup n start (record { net = net; leaves = leaves; frames = frames })
+unrolled_end c setup start t n net sources leaves frames e most b = record {
   count = b.long ∙ e;
   leaves = b.count ∙ ap (λ (m : ℕ). length (places c setup start m)) e;
+  few = (let fit = leaves_fit leaves net (λ i lt. b.has i ∙ lt-ltb i leaves lt) in omega (arith, fit, most));
   has = b.has;
-  below = leaves_below leaves net (λ i h. below_true i leaves (sym (b.has i) ∙ h));
+  below = has_below leaves net (λ i h. below_true i leaves (sym (b.has i) ∙ h));
   are = b.are;
   follows = λ w.
       let r = b.reached w in

@@ -11,7 +11,8 @@ use Rattle.cyc_net.proofs.NetLaws.{Extends-trans, gate_same, value_gate}
 use Rattle.unroller.specs.declared.setup.Fixed.{Fixed}
 use Rattle.unroller.specs.declared.setup.FixedBit.{FixedBit}
 use Rattle.unroller.specs.declared.setup.StartState.TheVariants.{Free, PowerUp}
-use Rattle.unroller.specs.Setups.{no_leaf, leaf_of, bit_of, fixed_at, value_of, is_one, Trace, Place, state_places, free_place, input_places, Agree}
+use Rattle.cyc_net.specs.Cycles.{no_leaf, leaf_of, bit_of}
+use Rattle.unroller.specs.Setups.{fixed_at, value_of, is_one, Trace, Place, state_places, free_place, input_places, Agree}
 use Rattle.unroller.specs.Steps.{Apart, Across, AreNodes, InputSays, Started, Given, Placing, Copied, Copying}
 use Rattle.unroller.specs.Tables.{read_node}
 

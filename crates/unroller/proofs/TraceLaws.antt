@@ -11,7 +11,8 @@ use Rattle.unroller.specs.declared.setup.Fixed.{Fixed}
 use Rattle.unroller.specs.declared.setup.StartState.{StartState}
 use Rattle.unroller.specs.declared.setup.StartState.TheVariants.{Free, PowerUp}
 use Rattle.unroller.specs.declared.frames.Unrolled.{Unrolled}
-use Rattle.unroller.specs.Setups.{leaf_of, bit_of, node_at, next_of, fixed_at, StartsAt, Trace, IsTrace, Place, state_places, free_place, input_places, places, Agree, IsUnrolled, FollowsAll}
+use Rattle.cyc_net.specs.Cycles.{leaf_of, bit_of, node_at, next_of}
+use Rattle.unroller.specs.Setups.{fixed_at, StartsAt, Trace, IsTrace, Place, state_places, free_place, input_places, places, Agree, IsUnrolled, FollowsAll}
 use Rattle.unroller.proofs.FrameLaws.{Same}
 
 agree_both : (n : ℕ) (ps : List Place) (w : ℕ → Bool) (σ τ : Trace) → Agree n ps w σ → Agree n ps w τ → Same σ τ ps

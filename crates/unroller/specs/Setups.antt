@@ -1,10 +1,11 @@
 -- Windows and runs of a cycle net, by the values of its leaves in each cycle.
-use Rattle.std.specs.Prelude.{◌≡◌, ℕ, ◌+◌, ◌<◌, Bool, false, cond, eqb, ltb, List, [], ◌∷◌, ◌++◌, length, slice_index_or, Option, Some, None, zero, suc}
+use Rattle.std.specs.Prelude.{◌≡◌, ℕ, ◌+◌, ◌<◌, ◌≤◌, ◌^◌, Bool, false, cond, eqb, ltb, List, [], ◌∷◌, ◌++◌, length, slice_index_or, Option, Some, None, zero, suc}
 use Rattle.std.specs.List.{fold}
 use mathlib.Core.Bool.{not}
 use Rattle.cyc_net.specs.declared.cycle.BitLeaf.{BitLeaf}
 use Rattle.cyc_net.specs.declared.cycle.BitNode.{BitNode}
 use Rattle.cyc_net.specs.declared.cycle.CycleNet.{CycleNet}
+use Rattle.cyc_net.specs.Cycles.{next_of, leaf_of, bit_of, bit_at, node_at}
 use Rattle.cyc_net.specs.Nets.{value, has_leaf, LeavesBelow}
 use Rattle.cyc_net.specs.declared.node.Node.{Node}
 use Rattle.unroller.specs.declared.frames.Unrolled.{Unrolled}
@@ -22,10 +23,6 @@ or_some (Some v) o = Some v
 abbrev pub value_of : List FixedBit → ℕ → Option Bool
 value_of pins b = fold (λ (o : Option Bool) (p : FixedBit). cond (eqb b p.bit) (Some p.value) o) None pins
 
--- the next node of a bit; the last entry of the bit counts, and node 0 stands where there is none
-abbrev pub next_of : List BitNode → ℕ → ℕ
-next_of nexts b = fold (λ (n : ℕ) (p : BitNode). cond (eqb b p.bit) p.node n) 0 nexts
-
 abbrev pub reset_value : Option FixedReset → ℕ → ℕ → Option Bool
 reset_value None t b = None
 reset_value (Some r) t b = cond (eqb b r.bit) (Some (cond (ltb t r.cycles) r.asserted (not r.asserted))) None
@@ -33,18 +30,6 @@ reset_value (Some r) t b = cond (eqb b r.bit) (Some (cond (ltb t r.cycles) r.ass
 -- the value that an input bit has in cycle t, where it is pinned or the reset
 abbrev pub fixed_at : Fixed → ℕ → ℕ → Option Bool
 fixed_at setup t b = or_some (value_of setup.pins b) (reset_value setup.reset t b)
-
-abbrev pub no_leaf : BitLeaf
-no_leaf = record { bit = 0; leaf = 0 }
-
-abbrev pub no_node : BitNode
-no_node = record { bit = 0; node = 0 }
-
-abbrev pub leaf_of : List BitLeaf → ℕ → ℕ
-leaf_of ps k = (slice_index_or ps k no_leaf).leaf
-
-abbrev pub bit_of : List BitLeaf → ℕ → ℕ
-bit_of ps k = (slice_index_or ps k no_leaf).bit
 
 abbrev pub is_one : Option Bool → Bool
 is_one None = false
@@ -94,12 +79,6 @@ abbrev pub Agree : ℕ → List Place → (ℕ → Bool) → Trace → Type 0
 Agree n [] w σ = Unit {0}
 Agree n (p ∷ ps) w σ = (w n ≡ σ p.cycle p.leaf) × Agree (n + 1) ps w σ
 
-abbrev pub bit_at : List BitNode → ℕ → ℕ
-bit_at ps k = (slice_index_or ps k no_node).bit
-
-abbrev pub node_at : List BitNode → ℕ → ℕ
-node_at ps k = (slice_index_or ps k no_node).node
-
 -- the frames have nodes of the net for the bits of the cycle net, in their order
 pub record AreFrames (c : CycleNet) (net : List Node) (frames : List (List BitNode)) : Type 0 where
   pub long : (t : ℕ) → t < length frames → length (slice_index_or frames t []) ≡ length c.bits
@@ -113,10 +92,11 @@ pub record Follows (c : CycleNet) (setup : Fixed) (start : StartState) (net : Li
   pub agree : Agree 0 (places c setup start (length frames)) w trace
   pub values : (t k : ℕ) → t < length frames → k < length c.bits → value net w (node_at (slice_index_or frames t []) k) ≡ value c.net (trace t) (node_at c.bits k)
 
--- the net of some cycles
+-- the net of some cycles; its leaves are the places in their order, and a net has room for no more than 2^27
 pub record IsUnrolled (c : CycleNet) (setup : Fixed) (frames : ℕ) (start : StartState) (u : Unrolled) : Type 0 where
   pub count : length u.frames ≡ frames
   pub leaves : u.leaves ≡ length (places c setup start frames)
+  pub few : u.leaves ≤ 2 ^ 27
   pub has : (i : ℕ) → has_leaf u.net i ≡ ltb i u.leaves
   pub below : LeavesBelow u.leaves u.net
   pub are : AreFrames c u.net u.frames

@@ -7,7 +7,8 @@ use Rattle.cyc_net.specs.declared.cycle.CycleNet.{CycleNet}
 use Rattle.cyc_net.specs.Nets.{value, has_leaf, Extends}
 use Rattle.unroller.specs.declared.setup.Fixed.{Fixed}
 use Rattle.unroller.specs.declared.setup.StartState.{StartState}
-use Rattle.unroller.specs.Setups.{fixed_at, leaf_of, bit_of, node_at, next_of, StartsAt, Trace, IsTrace, state_places, input_places, places, Agree, AreFrames}
+use Rattle.cyc_net.specs.Cycles.{leaf_of, bit_of, node_at, next_of}
+use Rattle.unroller.specs.Setups.{fixed_at, StartsAt, Trace, IsTrace, state_places, input_places, places, Agree, AreFrames}
 use Rattle.unroller.specs.Tables.{read_node}
 
 -- no leaf stands twice

@@ -1,7 +1,7 @@
 ghost use Rattle.std.specs.Prelude.{◌≡◌, ℕ, ◌+◌, ◌<◌, ◌||◌, ◌^◌, ◌++◌, ◌∷◌, [], List, Bool, eqb, ltb, false, length, map, IfOk, OnOk};
 ghost use Rattle.cyc_net.specs.Nets.{value, has_leaf, gate_value, ReadsBelow, Extends};
-ghost use Rattle.cyc_net.specs.Cycles.{IsCycleNet};
-ghost use Rattle.unroller.specs.Setups.{value_of, reset_value, or_some, next_of, leaf_of, bit_of, is_one, IsUnrolled, FollowsAll};
+ghost use Rattle.cyc_net.specs.Cycles.{IsCycleNet, LeavesFrom, leaf_of, bit_of, next_of};
+ghost use Rattle.unroller.specs.Setups.{value_of, reset_value, or_some, is_one, IsUnrolled, FollowsAll};
 ghost use Rattle.unroller.specs.Steps.{Apart, Across, AreNodes, InputSays, Started, Given, Copied, Before};
 ghost use Rattle.unroller.specs.Tables.{read_value, read_node};
 ghost use Rattle.cyc_net.specs.declared.cycle.BitNode.{BitNode};
@@ -10,7 +10,7 @@ ghost use Rattle.unroller.specs.declared.setup.StartState.TheVariants.{Free, Pow
 
 use crate::frames::{FrameList, Unrolled};
 use crate::setup::{Fixed, FixedBitList, FixedReset, StartState};
-use crate::tables::{next_table, put_node, value_table};
+use crate::tables::{nexts_by_place, put_node, values_by_place};
 use bits_core::{Items, NoMemory};
 use cyc_net::{BitLeaf, BitNode, CycleNet, Net, Node, NodeId, NodeList};
 use std::alloc::Global;
@@ -64,24 +64,25 @@ fn fixed_states(
     values: &FixedBitList,
     sources: &mut Vec<NodeId>,
 ) -> Result<(), NoMemory>
+    requires ascend { LeavesFrom 0 states.now }
     requires apart { Apart states.now }
     requires nodes { AreNodes net.now sources.old.items }
     requires none { (i : ℕ) → has_leaf net.now i ≡ false }
     ensures { OnOk result (Started (PowerUp values.now) states.now net.now net.now sources.new.items 0) }
 {
-    let table = value_table(alloc, values.as_slice())?;
-    for state in states {
-        let node = constant(net, is_set(table.as_slice(), state.bit));
-        put_node(sources, state.leaf, node)?;
+    let table = values_by_place(alloc, states, values.as_slice())?;
+    for at in 0..states.len() {
+        let node = constant(net, is_set(table.as_slice(), at));
+        put_node(sources, states[at].leaf, node)?;
     }
     Ok(())
 }
 
-/// Whether a table has the value 1 at a number.
-fn is_set(table: &[Option<bool>], number: u32) -> bool
-    ensures { result ≡ is_one (read_value table.now number) }
+/// Whether a table has the value 1 at a place.
+fn is_set(table: &[Option<bool>], place: usize) -> bool
+    ensures { result ≡ is_one (read_value table.now place) }
 {
-    match table.get(number as usize) {
+    match table.get(place) {
         Some(Some(value)) => *value,
         _ => false,
     }
@@ -95,6 +96,7 @@ fn place_states(
     start: &StartState,
     sources: &mut Vec<NodeId>,
 ) -> Result<u32, NoMemory>
+    requires ascend { LeavesFrom 0 states.now }
     requires apart { Apart states.now }
     requires nodes { AreNodes net.old sources.old.items }
     requires none { (i : ℕ) → has_leaf net.old i ≡ false }
@@ -109,16 +111,17 @@ fn place_states(
     }
 }
 
-/// The value that an input bit has in a cycle, where it is pinned or the reset.
+/// The value that the input bit at a place has in a cycle, where it is pinned or the reset.
 fn fixed_value(
     pins: &[Option<bool>],
     reset: &Option<FixedReset>,
+    place: usize,
     bit: u32,
     cycle: u32,
 ) -> Option<bool>
-    ensures { result ≡ or_some (read_value pins.now bit) (reset_value reset.now cycle bit) }
+    ensures { result ≡ or_some (read_value pins.now place) (reset_value reset.now cycle bit) }
 {
-    if let Some(Some(value)) = pins.get(bit as usize) {
+    if let Some(Some(value)) = pins.get(place) {
         return Some(*value);
     }
     match reset {
@@ -159,27 +162,25 @@ fn place_inputs(
     requires apart { Apart inputs.now }
     requires nodes { AreNodes net.old sources.old.items }
     requires has { (i : ℕ) → has_leaf net.old i ≡ ltb i first }
-    requires pins { (b : ℕ) → read_value pins.now b ≡ value_of setup.now.pins b }
+    requires pins { (k : ℕ) → k < length inputs.now → read_value pins.now k ≡ value_of setup.now.pins (bit_of inputs.now k) }
     ensures { IfOk result (λ leaves. Given setup.now cycle inputs.now net.old sources.old.items first net.new sources.new.items leaves) }
 {
     let mut leaves = first;
-    for input in inputs {
-        let (node, next) = input_node(
-            net,
-            fixed_value(pins, &setup.reset, input.bit, cycle),
-            leaves,
-        )?;
+    for at in 0..inputs.len() {
+        let input = inputs[at];
+        let fixed = fixed_value(pins, &setup.reset, at, input.bit, cycle);
+        let (node, next) = input_node(net, fixed, leaves)?;
         put_node(sources, input.leaf, node)?;
         leaves = next;
     }
     Ok(leaves)
 }
 
-/// The node of a number, and node 0 where there is none.
-fn node_of(table: &[NodeId], number: u32) -> NodeId
-    ensures { result ≡ read_node table.now number }
+/// The node at a place of a table, and node 0 where there is none.
+fn node_at(table: &[NodeId], place: usize) -> NodeId
+    ensures { result ≡ read_node table.now place }
 {
-    match table.get(number as usize) {
+    match table.get(place) {
         Some(node) => *node,
         None => 0,
     }
@@ -201,13 +202,19 @@ fn copy_node(
 {
     match node {
         Node::Const(value) => Ok(constant(net, value)),
-        Node::Leaf(number) => Ok(node_of(sources, number)),
-        Node::And(a, b) => Ok(net.push(Node::And(node_of(copies, a), node_of(copies, b)))?),
-        Node::Xor(a, b) => Ok(net.push(Node::Xor(node_of(copies, a), node_of(copies, b)))?),
+        Node::Leaf(number) => Ok(node_at(sources, number as usize)),
+        Node::And(a, b) => {
+            let gate = Node::And(node_at(copies, a as usize), node_at(copies, b as usize));
+            Ok(net.push(gate)?)
+        }
+        Node::Xor(a, b) => {
+            let gate = Node::Xor(node_at(copies, a as usize), node_at(copies, b as usize));
+            Ok(net.push(gate)?)
+        }
         Node::Mux(c, a, b) => Ok(net.push(Node::Mux(
-            node_of(copies, c),
-            node_of(copies, a),
-            node_of(copies, b),
+            node_at(copies, c as usize),
+            node_at(copies, a as usize),
+            node_at(copies, b as usize),
         ))?),
     }
 }
@@ -239,7 +246,7 @@ fn frame_of(alloc: Global, bits: &[BitNode], copies: &[NodeId]) -> Result<NodeLi
     for bit in bits {
         frame.push(BitNode {
             bit: bit.bit,
-            node: node_of(copies, bit.node),
+            node: node_at(copies, bit.node as usize),
         })?;
     }
     Ok(frame)
@@ -253,15 +260,12 @@ fn next_states(
     sources: &mut Vec<NodeId>,
 ) -> Result<(), NoMemory>
     requires apart { Apart states.now }
-    ensures linked { OnOk result ((k : ℕ) → k < length states.now → read_node sources.new.items (leaf_of states.now k) ≡ read_node copies.now (read_node nexts.now (bit_of states.now k))) }
+    ensures linked { OnOk result ((k : ℕ) → k < length states.now → read_node sources.new.items (leaf_of states.now k) ≡ read_node copies.now (read_node nexts.now k)) }
     ensures nodes { OnOk result ((n : ℕ) → ((l : ℕ) → read_node sources.old.items l < n) → ((l : ℕ) → read_node copies.now l < n) → (l : ℕ) → read_node sources.new.items l < n) }
 {
-    for state in states {
-        put_node(
-            sources,
-            state.leaf,
-            node_of(copies, node_of(nexts, state.bit)),
-        )?;
+    for at in 0..states.len() {
+        let next = node_at(nexts, at);
+        put_node(sources, states[at].leaf, node_at(copies, next as usize))?;
     }
     Ok(())
 }
@@ -279,8 +283,8 @@ fn step(
     leaves: u32,
 ) -> Result<(NodeList, u32), NoMemory>
     requires cycle { IsCycleNet cycle.now }
-    requires pins { (b : ℕ) → read_value pins.now b ≡ value_of setup.now.pins b }
-    requires nexts { (b : ℕ) → read_node nexts.now b ≡ next_of cycle.now.nexts b }
+    requires pins { (k : ℕ) → k < length cycle.now.inputs → read_value pins.now k ≡ value_of setup.now.pins (bit_of cycle.now.inputs k) }
+    requires nexts { (k : ℕ) → k < length cycle.now.states → read_node nexts.now k ≡ next_of cycle.now.nexts (bit_of cycle.now.states k) }
     requires nodes { AreNodes net.old sources.old.items }
     requires has { (i : ℕ) → has_leaf net.old i ≡ ltb i leaves }
     ensures { IfOk result (λ r. (start : StartState) (frames : List (List BitNode)) → Before cycle.now setup.now start at net.old sources.old.items leaves frames → Before cycle.now setup.now start (at + 1) net.new sources.new.items r.1 (frames ++ r.0 ∷ [])) }
@@ -300,7 +304,10 @@ fn step(
 
 /// The windows of a cycle net over so many cycles, where the start is free, and else its runs from power-up. Pinned bits and the reset have
 /// their values, and each other input bit of each cycle is a leaf; before these come the stored bits of the first cycle, where they
-/// are free. Linear in the cycles times the nodes.
+/// are free. A net of 2^27 nodes is full, so there are no more leaves.
+///
+/// Linear in the cycles times the nodes and bits of the cycle net. Besides, once, a search among the inputs or the stored bits for each
+/// pin, each value at power-up and each next node, and a table as long as the greatest leaf number of the cycle net.
 pub fn unroll(
     alloc: Global,
     cycle: &CycleNet,
@@ -314,11 +321,10 @@ pub fn unroll(
 {
     let mut net = Net::new(alloc)?;
     let mut sources = Vec::new(alloc);
-    let pinned = setup.pins.as_slice();
-    let pins = value_table(alloc, pinned)?;
-    let following = cycle.nexts.as_slice();
-    let nexts = next_table(alloc, following)?;
+    let inputs = cycle.inputs.as_slice();
     let states = cycle.states.as_slice();
+    let pins = values_by_place(alloc, inputs, setup.pins.as_slice())?;
+    let nexts = nexts_by_place(alloc, states, cycle.nexts.as_slice())?;
     let mut leaves = place_states(alloc, &mut net, states, start, &mut sources)?;
     let mut done = Items::new(alloc);
     for at in 0..frames {
@@ -338,6 +344,7 @@ pub fn unroll(
         done.push(frame)?;
         leaves = more;
     }
+    prove!(net.len() <= 134_217_728);
     Ok(Unrolled {
         net,
         leaves,

@@ -1,6 +1,6 @@
 use Rattle.std.proofs.Common.{◌≡◌, ℕ, ◌<◌, Bool, ltb}
 use Rattle.cyc_net.specs.Nets.{value, has_leaf, Extends}
-use Rattle.unroller.specs.Setups.{leaf_of}
+use Rattle.cyc_net.specs.Cycles.{leaf_of}
 use Rattle.unroller.specs.Steps.{AreNodes}
 use Rattle.unroller.specs.Tables.{read_node}
 use Rattle.unroller.proofs.unrolling.free_states.Given as goal

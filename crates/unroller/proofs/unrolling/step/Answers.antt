@@ -1,7 +1,7 @@
 use Rattle.std.proofs.Common.{◌≡◌, ℕ, ◌<◌, List, length, arith, sym, ap, subst, ◌∙◌, map}
 use Rattle.cyc_net.specs.declared.cycle.BitLeaf.{BitLeaf}
 use Rattle.cyc_net.specs.declared.cycle.BitNode.{BitNode}
-use Rattle.unroller.specs.Setups.{leaf_of, bit_of}
+use Rattle.cyc_net.specs.Cycles.{leaf_of, bit_of}
 use Rattle.unroller.specs.Steps.{Apart, Given, Copied}
 use Rattle.unroller.specs.Tables.{read_node}
 use Rattle.unroller.proofs.StepLaws.{apart_first, apart_second}
@@ -33,11 +33,11 @@ returns c = λ start frames b.
     let framed = c.in_ok-frame.ensures
     ∙ ap (λ (xs : List ℕ). map (λ (p : BitNode). record { bit = p.bit; node = read_node xs p.node }) c.as_slice-bits.result.now) c.as_slice-copied.ensures.value
     ∙ ap (λ (ps : List BitNode). map (λ (p : BitNode). record { bit = p.bit; node = read_node copies p.node }) ps) c.as_slice-bits.ensures in
-    let linked = subst (λ (xs : List ℕ). (k : ℕ) → k < length d.states → read_node srcB (leaf_of d.states k) ≡ read_node xs (read_node c.args.nexts.now (bit_of d.states k))) c.as_slice-copied.ensures.value
-    (subst (λ (ps : List BitLeaf). (k : ℕ) → k < length ps → read_node srcB (leaf_of ps k) ≡ read_node c.as_slice-copied.result.now (read_node c.args.nexts.now (bit_of ps k))) c.as_slice-states.ensures c.in_ok-next_states.ensures.linked) in
+    let linked = subst (λ (xs : List ℕ). (k : ℕ) → k < length d.states → read_node srcB (leaf_of d.states k) ≡ read_node xs (read_node c.args.nexts.now k)) c.as_slice-copied.ensures.value
+    (subst (λ (ps : List BitLeaf). (k : ℕ) → k < length ps → read_node srcB (leaf_of ps k) ≡ read_node c.as_slice-copied.result.now (read_node c.args.nexts.now k)) c.as_slice-states.ensures c.in_ok-next_states.ensures.linked) in
     before_more d c.args.setup.now start c.args.at net0 netA netB src0 srcA srcB copies c.args.leaves c.in_ok-more.more frames c.in_ok-frame.frame
     c.requires.cycle (omega (arith, c.len.ensures.value, c.len.ensures.some)) b given copied framed
-    (λ k lt. linked k lt ∙ ap (read_node copies) (c.requires.nexts (bit_of d.states k)))
+    (λ k lt. linked k lt ∙ ap (read_node copies) (c.requires.nexts k lt))
     (c.in_ok-next_states.ensures.nodes (length netB)
     (λ l. let h = given.nodes l in let k = copied.kept.longer in omega arith)
     (λ l. subst (λ (xs : List ℕ). read_node xs l < length netB) (sym c.as_slice-copied.ensures.value) (copied.nodes l)))

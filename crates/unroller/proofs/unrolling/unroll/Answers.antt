@@ -26,9 +26,9 @@ loop-at-preserved c =
 
 pub returns-clause-unrolled : goal.returns-clause-unrolled
 returns-clause-unrolled c =
-    unrolled_end c.args.cycle.now c.args.setup.now c.args.start.now c.loop-at.at c.args.frames c.loop-at.net c.loop-at.sources.items c.loop-at.leaves c.loop-at.done (omega arith) c.loop-at.invariant
+    unrolled_end c.args.cycle.now c.args.setup.now c.args.start.now c.loop-at.at c.args.frames c.loop-at.net c.loop-at.sources.items c.loop-at.leaves c.loop-at.done (omega arith) (omega (arith, c.len.ensures.value, c.len.ensures.most)) c.loop-at.invariant
 
 pub returns-clause-follows : goal.returns-clause-follows
 returns-clause-follows c =
     follows_all c.args.cycle.now c.args.setup.now c.args.frames c.args.start.now (record { net = c.loop-at.net; leaves = c.loop-at.leaves; frames = c.loop-at.done }) c.requires
-    (unrolled_end c.args.cycle.now c.args.setup.now c.args.start.now c.loop-at.at c.args.frames c.loop-at.net c.loop-at.sources.items c.loop-at.leaves c.loop-at.done (omega arith) c.loop-at.invariant)
+    (unrolled_end c.args.cycle.now c.args.setup.now c.args.start.now c.loop-at.at c.args.frames c.loop-at.net c.loop-at.sources.items c.loop-at.leaves c.loop-at.done (omega arith) (omega (arith, c.len.ensures.value, c.len.ensures.most)) c.loop-at.invariant)

@@ -1,7 +1,7 @@
 use Rattle.std.proofs.Common.{◌≡◌, ◌++◌, ◌∷◌, [], length, arith, sym, ap, subst, ◌∙◌, List}
 use Rattle.cyc_net.specs.declared.node.Node.{Node}
-use Rattle.cyc_net.specs.Nets.{ReadsBelow, IsNet, IsPushed, Extends}
-use Rattle.cyc_net.proofs.NetLaws.{IsNet-push, pushed, Extends-push}
+use Rattle.cyc_net.specs.Nets.{ReadsBelow, IsNet, IsPushed, Extends, Gated}
+use Rattle.cyc_net.proofs.NetLaws.{IsNet-push, pushed, Extends-push, Gated-push}
 use Rattle.cyc_net.proofs.net.Net.push.Goals as goal
 
 pub invariant_of-self-2 : goal.invariant_of-self-2
@@ -21,3 +21,10 @@ returns-clause-kept c =
     let old = c.args.self.now in
     let new : c.push.new.self.items ≡ old ++ c.args.node ∷ [] = c.in_ok-push.ensures.items ∙ ap (λ (ns : List Node). ns ++ c.args.node ∷ []) c.self.view_is in
     subst (Extends old) (sym new) (Extends-push old c.args.node)
+
+pub returns-clause-gated : goal.returns-clause-gated
+returns-clause-gated c =
+    λ gate.
+    let old = c.args.self.now in
+    let new : c.push.new.self.items ≡ old ++ c.args.node ∷ [] = c.in_ok-push.ensures.items ∙ ap (λ (ns : List Node). ns ++ c.args.node ∷ []) c.self.view_is in
+    subst (Gated old) (sym new) (Gated-push old c.args.node gate)
