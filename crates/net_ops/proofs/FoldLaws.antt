@@ -7,7 +7,7 @@ use Rattle.std.proofs.lemmas.List.Elements.{All-push, All-nil}
 use Rattle.std.proofs.lemmas.Result.{IfOk-weaker}
 use Rattle.bits_core.specs.Places.{exclusive_or, is_set, zip_with}
 use Rattle.cyc_net.specs.declared.node.Node.{Node}
-use Rattle.cyc_net.specs.Nets.{value, Extends}
+use Rattle.cyc_net.specs.Nets.{value, Gated}
 use Rattle.design_core.specs.Operators.{is_equal, is_odd, one_bit}
 use Rattle.value_domain.specs.Words.{turned}
 use Rattle.net_ops.specs.Words.{AreNodes, IsBit, IsWord, folded, read}
@@ -68,7 +68,7 @@ same_or_unlike (x ∷ xs) (y ∷ ys) e = by_first (exclusive_or x y) (same_or_un
     by_first false h = h
 
 -- one bit more of a word
-pub folded_more : (f : Bool → Bool → Bool) (old d now : List Node) (xs : List ℕ) (at acc n x : ℕ) (start : (ℕ → Bool) → Bool) → AreNodes old xs → Extends old d → at < length xs
+pub folded_more : (f : Bool → Bool → Bool) (old d now : List Node) (xs : List ℕ) (at acc n x : ℕ) (start : (ℕ → Bool) → Bool) → AreNodes old xs → Gated old d → at < length xs
     → IsBit d acc (λ v. folded f (start v) (take at (read old v xs))) → IsBit now n (λ v. f (value d v acc) (value d v (get_or xs at x)))
     → IsBit now n (λ v. folded f (start v) (take (at + 1) (read old v xs)))
 folded_more f old d now xs at acc n x start h k lt so is = record {
@@ -106,7 +106,7 @@ pub said : {E : Type 0} (net : List Node) (n : ℕ) (of more : (ℕ → Bool) �
 said net n of more r e h = IfOk-weaker r _ _ (λ xs w. record { are = w.are; long = w.long; reads = λ v. w.reads v ∙ e v }) h
 
 -- a gate over whether two words have a bit that is 1
-pub logic_bit : (f : Bool → Bool → Bool) (old one two three : List Node) (xs ys : List ℕ) (first second n : ℕ) → Extends old one → Extends one two → AreNodes old ys
+pub logic_bit : (f : Bool → Bool → Bool) (old one two three : List Node) (xs ys : List ℕ) (first second n : ℕ) → Gated old one → Gated one two → AreNodes old ys
     → IsBit one first (λ v. is_set (read old v xs)) → IsBit two second (λ v. is_set (read one v ys)) → IsBit three n (λ v. f (value two v first) (value two v second))
     → IsBit three n (λ v. f (is_set (read old v xs)) (is_set (read old v ys)))
 logic_bit f old one two three xs ys first second n k l h a b is = record {

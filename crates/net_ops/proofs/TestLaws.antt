@@ -1,11 +1,10 @@
 -- Words of four bits are operands of each operator.
 use Rattle.std.proofs.Common.{◌≡◌, ℕ, ◌+◌, ◌<◌, List, [], ◌∷◌, ◌++◌, length, length-append, refl, sym, subst, arith}
-use Rattle.std.proofs.lemmas.List.Elements.{All-push, All-nil}
+use Rattle.std.proofs.lemmas.List.Elements.{All-push, All-nil, All-weaker}
 use Rattle.cyc_net.specs.declared.node.Node.{Node}
 use Rattle.cyc_net.specs.Nets.{Extends}
 use Rattle.cyc_net.proofs.NetLaws.{Extends-refl, Extends-trans}
 use Rattle.net_ops.specs.Words.{AreNodes}
-use Rattle.net_ops.proofs.BuiltLaws.{still_nodes}
 use Rattle.design_core.specs.declared.operators.Unary.{Unary}
 use Rattle.design_core.specs.declared.operators.Unary.TheVariants as unary
 use Rattle.design_core.specs.declared.operators.Binary.{Binary}
@@ -52,7 +51,7 @@ pub record Leaves (old now : List Node) (word : List ℕ) (at : ℕ) : Type 0 wh
 pub one_more : (old mid now : List Node) (word more : List ℕ) (at n : ℕ) → Leaves old mid word at → Extends mid now → n < length now → more ≡ word ++ n ∷ [] → Leaves old now more (at + 1)
 one_more old mid now word more at n l k lt e = subst (λ w. Leaves old now w (at + 1)) (sym e) (record {
   kept = Extends-trans old mid now l.kept k;
-  are = All-push (λ m. m < length now) word n (still_nodes mid now word k l.are) lt;
+  are = All-push (λ m. m < length now) word n (All-weaker (λ m. m < length mid) (λ m. m < length now) (λ m lt. let g = k.longer in omega arith) word l.are) lt;
   long = let h = l.long in omega (arith, length-append word (n ∷ []));
 })
 

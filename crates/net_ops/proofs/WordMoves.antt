@@ -5,8 +5,8 @@ use native.Mathlib.Numerals.{unary_clauses}
 use Rattle.bits_core.specs.Places.{is_set}
 use Rattle.bits_core.specs.Numbers.{number}
 use Rattle.cyc_net.specs.declared.node.Node.{Node}
-use Rattle.cyc_net.specs.Nets.{value, Extends}
-use Rattle.cyc_net.proofs.NetLaws.{Extends-refl, Extends-trans}
+use Rattle.cyc_net.specs.Nets.{value, Gated}
+use Rattle.cyc_net.proofs.NetLaws.{Gated-refl, Gated-trans}
 use Rattle.net_ops.specs.Moves.{come, moved}
 use Rattle.net_ops.specs.Words.{AreNodes, IsBit, IsWord, read}
 use Rattle.net_ops.proofs.BuiltLaws.{same_read, later_read}
@@ -24,7 +24,7 @@ module _ (old : List Node) (left : Bool) (fill by test : ℕ) (xs : List ℕ) wh
       cases true = length-moved left (value old v fill) by (read old v xs) ∙ length-map xs (value old v)
       cases false = length-map xs (value old v)
 
-  pub next_staged : (d now : List Node) (at made other x : ℕ) → fill < length old → test < length old → AreNodes old xs → Extends old d → at < length xs
+  pub next_staged : (d now : List Node) (at made other x : ℕ) → fill < length old → test < length old → AreNodes old xs → Gated old d → at < length xs
       → IsBit d other (λ v. come left (value d v fill) by (read d v xs) at)
       → IsBit now made (λ v. if value d v test then value d v other else value d v (get_or xs at x))
       → IsBit now made (λ v. get_or (staged_word old left fill by test xs v) at false)
@@ -46,7 +46,7 @@ module _ (old : List Node) (left : Bool) (fill by test : ℕ) (xs : List ℕ) wh
 
 -- the word so far, moved by what the bits from here on count, is the whole word moved
 pub record Shifting (old : List Node) (left : Bool) (fill : ℕ) (xs ys : List ℕ) (now : List Node) (word : List ℕ) (at step : ℕ) : Type 0 where
-  pub kept : Extends old now
+  pub kept : Gated old now
   pub are : AreNodes now word
   pub long : length word ≡ length xs
   pub within : at ≤ length ys
@@ -57,7 +57,7 @@ pub record Shifting (old : List Node) (left : Bool) (fill : ℕ) (xs ys : List �
 module _ (old : List Node) (left : Bool) (fill : ℕ) (xs ys : List ℕ) where
   pub Shifting-start : (word : List ℕ) → AreNodes old xs → word ≡ xs → Shifting old left fill xs ys old word 0 1
   Shifting-start word a e = subst (λ w. Shifting old left fill xs ys old w 0 1) (sym e) (record {
-    kept = Extends-refl old;
+    kept = Gated-refl old;
     are = a;
     long = refl;
     within = omega arith;
@@ -66,13 +66,13 @@ module _ (old : List Node) (left : Bool) (fill : ℕ) (xs ys : List ℕ) where
   })
 
   pub Shifting-step : (d now : List Node) (word lent more : List ℕ) (at step more_step y : ℕ) → fill < length old → AreNodes old ys → at < length ys → lent ≡ word
-      → Shifting old left fill xs ys d word at step → Extends d now → more_step ≡ step * 2
+      → Shifting old left fill xs ys d word at step → Gated d now → more_step ≡ step * 2
       → IsWord now more (length lent) (λ v. staged_word d left fill step (get_or ys at y) lent v)
       → Shifting old left fill xs ys now more (at + 1) more_step
   Shifting-step d now word lent more at step more_step y fl b lt e inv k twice made =
       let is = subst (λ w. IsWord now more (length w) (λ v. staged_word d left fill step (get_or ys at y) w v)) e made in
       record {
-        kept = Extends-trans old d now inv.kept k;
+        kept = Gated-trans old d now inv.kept k;
         are = is.are;
         long = is.long ∙ inv.long;
         within = omega arith;
@@ -99,7 +99,7 @@ module _ (old : List Node) (left : Bool) (fill : ℕ) (xs ys : List ℕ) where
   }
 
   pub Shifting-end : (d t now : List Node) (word lent more : List ℕ) (at step past : ℕ) → fill < length old → AreNodes old ys → length xs ≤ step → lent ≡ word
-      → Shifting old left fill xs ys d word at step → Extends d t
+      → Shifting old left fill xs ys d word at step → Gated d t
       → IsBit t past (λ v. is_set (read d v (take (length ys - at) (drop at ys))))
       → IsWord now more (length lent) (λ v. staged_word t left fill (length xs) past lent v)
       → IsWord now more (length xs) (λ v. moved left (value old v fill) (number (read old v ys)) (read old v xs))
@@ -110,7 +110,7 @@ module _ (old : List Node) (left : Bool) (fill : ℕ) (xs ys : List ℕ) where
         long = is.long ∙ inv.long;
         reads = λ v.
             let p = inv.power in
-            let f = (Extends-trans old d t inv.kept k).same fill v fl in
+            let f = (Gated-trans old d t inv.kept k).same fill v fl in
             staged_end left (value old v fill) (value t v past) at step (length xs) (read old v ys) (read d v word) (read now v more) _ p le
             (length-map word (value d v) ∙ inv.long) (any.worth v ∙ ap (λ r. is_set (read d v r)) (take_all (length ys - at) (drop at ys) (let l = length-drop at ys in omega (arith, l))) ∙ ap is_set (sym (drop-map (value d v) at ys)) ∙ ap (λ r. is_set (drop at r)) (same_read old d v ys inv.kept b))
             (is.reads v ∙ ap₂ (λ g r. if value t v past then moved left g (length xs) r else r) f (same_read d t v word k inv.are))

@@ -8,8 +8,8 @@ use Rattle.bits_core.specs.Ripple.{ripple, below}
 use Rattle.bits_core.proofs.CarryLaws.{get_flipped, ripple_more, ripple_end, below_place, below_end}
 use Rattle.bits_core.proofs.NumberLaws.{ripple_is_sum, ripple_is_difference, added_at, zero_product}
 use Rattle.cyc_net.specs.declared.node.Node.{Node}
-use Rattle.cyc_net.specs.Nets.{value, Extends}
-use Rattle.cyc_net.proofs.NetLaws.{Extends-refl, Extends-trans}
+use Rattle.cyc_net.specs.Nets.{value, Gated}
+use Rattle.cyc_net.proofs.NetLaws.{Gated-refl, Gated-trans}
 use Rattle.design_core.specs.Operators.{negated}
 use Rattle.net_ops.specs.Words.{AreNodes, IsBit, IsWord, read}
 use Rattle.net_ops.specs.Places.{IsPlace}
@@ -18,7 +18,7 @@ use Rattle.net_ops.proofs.SumLaws.{digit, onward, grown, grown_end, negated_as_d
 
 -- the places so far, and the sum of the rest with the carry, are the whole sum; where the second operand is inverted the carry is, too
 pub record Adding (old : List Node) (s : Bool) (xs ys : List ℕ) (now : List Node) (carry : ℕ) (out : List ℕ) (at : ℕ) : Type 0 where
-  pub kept : Extends old now
+  pub kept : Gated old now
   pub within : carry < length now
   pub are : AreNodes now out
   pub long : length out ≡ at
@@ -28,7 +28,7 @@ pub record Adding (old : List Node) (s : Bool) (xs ys : List ℕ) (now : List No
 module _ (old : List Node) (s : Bool) (xs ys : List ℕ) where
   pub Adding-start : (z : ℕ) (out : List ℕ) → z < length old → ((v : ℕ → Bool) → value old v z ≡ false) → out ≡ [] → Adding old s xs ys old z out 0
   Adding-start z out lt is e = subst (λ o. Adding old s xs ys old z o 0) (sym e) (record {
-    kept = Extends-refl old;
+    kept = Gated-refl old;
     within = lt;
     are = All-nil (λ n. n < length old);
     long = refl;
@@ -40,10 +40,10 @@ module _ (old : List Node) (s : Bool) (xs ys : List ℕ) where
       alone false = refl
 
   pub Adding-step : (d now : List Node) (out more : List ℕ) (at x y carry place next : ℕ) → AreNodes old xs → AreNodes old ys → length xs ≡ length ys → at < length xs
-      → Adding old s xs ys d carry out at → Extends d now → IsPlace d s (get_or xs at x) (get_or ys at y) carry now place next
+      → Adding old s xs ys d carry out at → Gated d now → IsPlace d s (get_or xs at x) (get_or ys at y) carry now place next
       → more ≡ out ++ place ∷ [] → Adding old s xs ys now next more (at + 1)
   Adding-step d now out more at x y carry place next a b same lt inv k is e = subst (λ o. Adding old s xs ys now next o (at + 1)) (sym e) (record {
-    kept = Extends-trans old d now inv.kept k;
+    kept = Gated-trans old d now inv.kept k;
     within = is.carried.within;
     are = All-push (λ m. m < length now) out place (still_nodes d now out k inv.are) is.sum.within;
     long = let l = inv.long in omega (arith, length-append out (place ∷ []));
@@ -115,20 +115,20 @@ negated_word old xs zeros z now out e is w = record {
 
 -- the rest decides from the answer so far as the whole does from nothing
 pub record Below (old : List Node) (signed : Bool) (xs ys : List ℕ) (now : List Node) (low at : ℕ) : Type 0 where
-  pub kept : Extends old now
+  pub kept : Gated old now
   pub within : low < length now
   pub rest : (v : ℕ → Bool) → below signed (value now v low) (drop at (read old v xs)) (drop at (read old v ys)) ≡ below signed false (read old v xs) (read old v ys)
 
 module _ (old : List Node) (signed : Bool) (xs ys : List ℕ) where
   pub Below-start : (z : ℕ) → z < length old → ((v : ℕ → Bool) → value old v z ≡ false) → Below old signed xs ys old z 0
-  Below-start z lt is = record { kept = Extends-refl old; within = lt; rest = λ v. ap (λ c. below signed c (read old v xs) (read old v ys)) (is v) }
+  Below-start z lt is = record { kept = Gated-refl old; within = lt; rest = λ v. ap (λ c. below signed c (read old v xs) (read old v ys)) (is v) }
 
   pub Below-step : (d now : List Node) (at x y low next : ℕ) (top : Bool) → AreNodes old xs → AreNodes old ys → length xs ≡ length ys → at < length xs → top ≡ nat_eq (at + 1) (length xs)
-      → Below old signed xs ys d low at → Extends d now
+      → Below old signed xs ys d low at → Gated d now
       → IsBit now next (λ v. if exclusive_or (value d v (get_or xs at x)) (value d v (get_or ys at y)) then exclusive_or (signed && top) (value d v (get_or ys at y)) else value d v low)
       → Below old signed xs ys now next (at + 1)
   Below-step d now at x y low next top a b same lt is inv k made = record {
-    kept = Extends-trans old d now inv.kept k;
+    kept = Gated-trans old d now inv.kept k;
     within = made.within;
     rest = λ v.
         let lx = length-map xs (value old v) in
@@ -157,7 +157,7 @@ abbrev pub row : List Node → (ℕ → Bool) → List ℕ → ℕ → List Bool
 row net v xs bit = map (λ x. value net v bit && x) (read net v xs)
 
 pub record Row (old : List Node) (xs : List ℕ) (bit from : ℕ) (start : List ℕ) (now : List Node) (carry : ℕ) (out : List ℕ) (at : ℕ) : Type 0 where
-  pub kept : Extends old now
+  pub kept : Gated old now
   pub within : carry < length now
   pub are : AreNodes now out
   pub long : length out ≡ length start
@@ -168,7 +168,7 @@ pub record Row (old : List Node) (xs : List ℕ) (bit from : ℕ) (start : List 
 module _ (old : List Node) (xs : List ℕ) (bit from : ℕ) (start : List ℕ) where
   pub Row-start : (z : ℕ) → z < length old → ((v : ℕ → Bool) → value old v z ≡ false) → AreNodes old start → Row old xs bit from start old z start from
   Row-start z lt is are = record {
-    kept = Extends-refl old;
+    kept = Gated-refl old;
     within = lt;
     are = are;
     long = refl;
@@ -179,13 +179,13 @@ module _ (old : List Node) (xs : List ℕ) (bit from : ℕ) (start : List ℕ) w
   }
 
   pub Row-step : (d e now : List Node) (out more : List ℕ) (at x o carry part place next : ℕ) → AreNodes old xs → bit < length old → length start ≤ length xs → at < length out
-      → Row old xs bit from start d carry out at → Extends d e → Extends e now
+      → Row old xs bit from start d carry out at → Gated d e → Gated e now
       → IsBit e part (λ v. value d v bit && value d v (get_or xs (at - from) x)) → IsPlace e false (get_or out at o) part carry now place next
       → more ≡ set out at place → Row old xs bit from start now next more (at + 1)
   Row-step d e now out more at x o carry part place next a bt long lt inv k l masked is f = subst (λ r. Row old xs bit from start now next r (at + 1)) (sym f) (record {
-    kept = Extends-trans old e now (Extends-trans old d e inv.kept k) l;
+    kept = Gated-trans old e now (Gated-trans old d e inv.kept k) l;
     within = is.carried.within;
-    are = All-set (λ m. m < length now) out at place is.sum.within (still_nodes d now out (Extends-trans d e now k l) inv.are);
+    are = All-set (λ m. m < length now) out at place is.sum.within (still_nodes d now out (Gated-trans d e now k l) inv.are);
     long = length-set out at place ∙ inv.long;
     from_on = let h = inv.from_on in omega arith;
     rest = λ v.
@@ -200,7 +200,7 @@ module _ (old : List Node) (xs : List ℕ) (bit from : ℕ) (start : List ℕ) w
         let q = value e v part in
         let n = value now v next in
         let same : read now v (set out at place) ≡ set (read d v out) at (value now v place)
-        = map-set (value now v) out at place ∙ ap (λ r. set r at (value now v place)) (same_read d now v out (Extends-trans d e now k l) inv.are) in
+        = map-set (value now v) out at place ∙ ap (λ r. set r at (value now v place)) (same_read d now v out (Gated-trans d e now k l) inv.are) in
         let on : at + 1 - from ≡ at - from + 1 = omega arith in
         ap (λ r. take (at + 1) r ++ ripple n (drop (at + 1) r) (drop (at + 1 - from) (row old v xs bit))) same
         ∙ ap (λ r. take (at + 1) (set (read d v out) at (value now v place)) ++ ripple n r (drop (at + 1 - from) (row old v xs bit))) (drop-set-lt (at + 1) (read d v out) at (value now v place) (omega arith))
@@ -232,13 +232,13 @@ abbrev pub product_so_far : List Node → List ℕ → List ℕ → ℕ → (ℕ
 product_so_far old xs ys from v = bits_of (length (read old v xs)) (number (read old v xs) * number (take from (read old v ys)))
 
 pub record Product (old : List Node) (xs ys : List ℕ) (now : List Node) (out : List ℕ) (from : ℕ) : Type 0 where
-  pub kept : Extends old now
+  pub kept : Gated old now
   pub word : IsWord now out (length xs) (product_so_far old xs ys from)
 
 module _ (old : List Node) (xs ys : List ℕ) where
   pub Product-start : (z : ℕ) (out : List ℕ) → z < length old → ((v : ℕ → Bool) → value old v z ≡ false) → out ≡ replicate (length xs) z → Product old xs ys old out 0
   Product-start z out lt is e = subst (λ o. Product old xs ys old o 0) (sym e) (record {
-    kept = Extends-refl old;
+    kept = Gated-refl old;
     word = record {
       are = are_replicated old (length xs) z lt;
       long = length-replicate (length xs) z;
@@ -247,11 +247,11 @@ module _ (old : List Node) (xs ys : List ℕ) where
   })
 
   pub Product-step : (d now : List Node) (out more : List ℕ) (from y : ℕ) → AreNodes old xs → AreNodes old ys → length xs ≡ length ys → from < length ys
-      → Product old xs ys d out from → Extends d now
+      → Product old xs ys d out from → Gated d now
       → IsWord now more (length out) (λ v. take from (read d v out) ++ ripple false (drop from (read d v out)) (row d v xs (get_or ys from y)))
       → Product old xs ys now more (from + 1)
   Product-step d now out more from y a b same lt inv k is = record {
-    kept = Extends-trans old d now inv.kept k;
+    kept = Gated-trans old d now inv.kept k;
     word = record {
       are = is.are;
       long = is.long ∙ inv.word.long;
@@ -270,7 +270,7 @@ module _ (old : List Node) (xs ys : List ℕ) where
   }
 
   pub Product-lent : (d now : List Node) (out lent new : List ℕ) (n from y : ℕ) → AreNodes old xs → AreNodes old ys → length xs ≡ length ys → from < length ys
-      → Product old xs ys d out from → Extends d now → lent ≡ out → n ≡ length out
+      → Product old xs ys d out from → Gated d now → lent ≡ out → n ≡ length out
       → IsWord now new (length lent) (λ v. take from (read d v lent) ++ ripple false (drop from (read d v lent)) (row d v xs (get_or ys from y)))
       → Product old xs ys now (take n (new ++ drop (length new) out)) (from + 1)
   Product-lent d now out lent new n from y a b same lt inv k e f is =

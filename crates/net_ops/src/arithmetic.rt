@@ -2,7 +2,7 @@ ghost use Rattle.std.specs.Prelude.{◌≡◌, ◌<◌, ◌≤◌, false, ◌&&�
 ghost use Rattle.bits_core.specs.Numbers.{difference_bits, is_less, product_bits, sum_bits};
 ghost use Rattle.bits_core.specs.Places.{exclusive_or};
 ghost use Rattle.bits_core.specs.Ripple.{ripple};
-ghost use Rattle.cyc_net.specs.Nets.{value, Extends};
+ghost use Rattle.cyc_net.specs.Nets.{value, Gated};
 ghost use Rattle.design_core.specs.Operators.{negated};
 ghost use Rattle.net_ops.specs.Places.{IsPlace};
 ghost use Rattle.net_ops.specs.Words.{AreNodes, IsBit, IsWord, read};
@@ -24,7 +24,7 @@ fn carry_gate(
     requires second { b < length net.old }
     requires carry { carry < length net.old }
     ensures made { IfOk result (λ r. IsBit net.new r (λ v. if value net.old v unlike then (if subtract then value net.old v b else value net.old v carry) else (if subtract then value net.old v carry else value net.old v b))) }
-    ensures kept { Extends net.old net.new }
+    ensures kept { Gated net.old net.new }
 {
     if subtract {
         mux_gate(net, unlike, b, carry)
@@ -45,7 +45,7 @@ fn add_place(
     requires second { b < length net.old }
     requires carry { carry < length net.old }
     ensures made { IfOk result (λ r. IsPlace net.old subtract a b carry net.new r.0 r.1) }
-    ensures kept { Extends net.old net.new }
+    ensures kept { Gated net.old net.new }
 {
     let unlike = xor_gate(net, a, b)?;
     let digit = xor_gate(net, unlike, carry)?;
@@ -65,7 +65,7 @@ fn add_all(
     requires second { AreNodes net.old b.now }
     requires same { length a.now ≡ length b.now }
     ensures made { IfOk result (λ r. IsWord net.new r (length a.now) (λ v. ripple subtract (read net.old v a.now) (map (exclusive_or subtract) (read net.old v b.now)))) }
-    ensures kept { Extends net.old net.new }
+    ensures kept { Gated net.old net.new }
 {
     let mut carry = net.zero();
     let mut out = Items::new(alloc);
@@ -88,7 +88,7 @@ pub fn sum(
     requires second { AreNodes net.old b.now }
     requires same { length a.now ≡ length b.now }
     ensures made { IfOk result (λ r. IsWord net.new r (length a.now) (λ v. sum_bits (read net.old v a.now) (read net.old v b.now))) }
-    ensures kept { Extends net.old net.new }
+    ensures kept { Gated net.old net.new }
 {
     add_all(alloc, net, false, a, b)
 }
@@ -104,7 +104,7 @@ pub fn difference(
     requires second { AreNodes net.old b.now }
     requires same { length a.now ≡ length b.now }
     ensures made { IfOk result (λ r. IsWord net.new r (length a.now) (λ v. difference_bits (read net.old v a.now) (read net.old v b.now))) }
-    ensures kept { Extends net.old net.new }
+    ensures kept { Gated net.old net.new }
 {
     add_all(alloc, net, true, a, b)
 }
@@ -113,7 +113,7 @@ pub fn difference(
 pub fn negation(alloc: Global, net: &mut Net, a: &[NodeId]) -> Result<Items<NodeId>, NoMemory>
     requires { AreNodes net.old a.now }
     ensures made { IfOk result (λ r. IsWord net.new r (length a.now) (λ v. negated (read net.old v a.now))) }
-    ensures kept { Extends net.old net.new }
+    ensures kept { Gated net.old net.new }
 {
     let zeros = vec![in alloc; net.zero(); a.len()]?;
     difference(alloc, net, zeros.as_slice(), a)
@@ -131,7 +131,7 @@ fn below_place(
     requires second { b < length net.old }
     requires low { low < length net.old }
     ensures made { IfOk result (λ r. IsBit net.new r (λ v. if exclusive_or (value net.old v a) (value net.old v b) then exclusive_or flip (value net.old v b) else value net.old v low)) }
-    ensures kept { Extends net.old net.new }
+    ensures kept { Gated net.old net.new }
 {
     let unlike = xor_gate(net, a, b)?;
     let above = if flip { a } else { b };
@@ -144,7 +144,7 @@ pub fn below(net: &mut Net, signed: bool, a: &[NodeId], b: &[NodeId]) -> Result<
     requires second { AreNodes net.old b.now }
     requires same { length a.now ≡ length b.now }
     ensures made { IfOk result (λ r. IsBit net.new r (λ v. is_less signed (read net.old v a.now) (read net.old v b.now))) }
-    ensures kept { Extends net.old net.new }
+    ensures kept { Gated net.old net.new }
 {
     let mut low = net.zero();
     for at in 0..a.len() {
@@ -168,7 +168,7 @@ fn add_row(
     requires within { from ≤ length out.old }
     requires long { length out.old ≤ length a.now }
     ensures made { IfOk result (λ r. IsWord net.new out.new (length out.old) (λ v. take from (read net.old v out.old) ++ ripple false (drop from (read net.old v out.old)) (map (λ x. value net.old v bit && x) (read net.old v a.now)))) }
-    ensures kept { Extends net.old net.new }
+    ensures kept { Gated net.old net.new }
 {
     let mut carry = net.zero();
     for at in from..out.len() {
@@ -191,7 +191,7 @@ pub fn product(
     requires second { AreNodes net.old b.now }
     requires same { length a.now ≡ length b.now }
     ensures made { IfOk result (λ r. IsWord net.new r (length a.now) (λ v. product_bits (read net.old v a.now) (read net.old v b.now))) }
-    ensures kept { Extends net.old net.new }
+    ensures kept { Gated net.old net.new }
 {
     let mut out = vec![in alloc; net.zero(); a.len()]?;
     for from in 0..b.len() {

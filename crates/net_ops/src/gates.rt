@@ -1,6 +1,6 @@
 ghost use Rattle.std.specs.Prelude.{◌≡◌, ◌<◌, ◌&&◌, ◌||◌, not, length, IfOk, if◌then◌else◌};
 ghost use Rattle.bits_core.specs.Places.{exclusive_or};
-ghost use Rattle.cyc_net.specs.Nets.{value, Extends};
+ghost use Rattle.cyc_net.specs.Nets.{value, Gated};
 ghost use Rattle.net_ops.specs.Words.{IsBit, gate_of};
 
 use bits_core::NoMemory;
@@ -22,7 +22,7 @@ pub fn and_gate(net: &mut Net, a: NodeId, b: NodeId) -> Result<NodeId, NoMemory>
     requires first { a < length net.old }
     requires second { b < length net.old }
     ensures made { IfOk result (λ r. IsBit net.new r (λ v. value net.old v a && value net.old v b)) }
-    ensures kept { Extends net.old net.new }
+    ensures kept { Gated net.old net.new }
 {
     net.push(Node::And(a, b))
 }
@@ -33,7 +33,7 @@ pub fn or_gate(net: &mut Net, a: NodeId, b: NodeId) -> Result<NodeId, NoMemory>
     requires first { a < length net.old }
     requires second { b < length net.old }
     ensures made { IfOk result (λ r. IsBit net.new r (λ v. value net.old v a || value net.old v b)) }
-    ensures kept { Extends net.old net.new }
+    ensures kept { Gated net.old net.new }
 {
     net.push(Node::Mux(a, a, b))
 }
@@ -44,7 +44,7 @@ pub fn xor_gate(net: &mut Net, a: NodeId, b: NodeId) -> Result<NodeId, NoMemory>
     requires first { a < length net.old }
     requires second { b < length net.old }
     ensures made { IfOk result (λ r. IsBit net.new r (λ v. exclusive_or (value net.old v a) (value net.old v b))) }
-    ensures kept { Extends net.old net.new }
+    ensures kept { Gated net.old net.new }
 {
     net.push(Node::Xor(a, b))
 }
@@ -53,7 +53,7 @@ pub fn xor_gate(net: &mut Net, a: NodeId, b: NodeId) -> Result<NodeId, NoMemory>
 pub fn not_gate(net: &mut Net, a: NodeId) -> Result<NodeId, NoMemory>
     requires { a < length net.old }
     ensures made { IfOk result (λ r. IsBit net.new r (λ v. not (value net.old v a))) }
-    ensures kept { Extends net.old net.new }
+    ensures kept { Gated net.old net.new }
 {
     let one = net.one();
     xor_gate(net, one, a)
@@ -64,7 +64,7 @@ pub fn xnor_gate(net: &mut Net, a: NodeId, b: NodeId) -> Result<NodeId, NoMemory
     requires first { a < length net.old }
     requires second { b < length net.old }
     ensures made { IfOk result (λ r. IsBit net.new r (λ v. not (exclusive_or (value net.old v a) (value net.old v b)))) }
-    ensures kept { Extends net.old net.new }
+    ensures kept { Gated net.old net.new }
 {
     let unlike = xor_gate(net, a, b)?;
     not_gate(net, unlike)
@@ -77,7 +77,7 @@ pub fn mux_gate(net: &mut Net, test: NodeId, a: NodeId, b: NodeId) -> Result<Nod
     requires first { a < length net.old }
     requires second { b < length net.old }
     ensures made { IfOk result (λ r. IsBit net.new r (λ v. if value net.old v test then value net.old v a else value net.old v b)) }
-    ensures kept { Extends net.old net.new }
+    ensures kept { Gated net.old net.new }
 {
     net.push(Node::Mux(test, a, b))
 }
@@ -87,7 +87,7 @@ pub fn join_gate(net: &mut Net, kind: Gate, a: NodeId, b: NodeId) -> Result<Node
     requires first { a < length net.old }
     requires second { b < length net.old }
     ensures made { IfOk result (λ r. IsBit net.new r (λ v. gate_of kind (value net.old v a) (value net.old v b))) }
-    ensures kept { Extends net.old net.new }
+    ensures kept { Gated net.old net.new }
 {
     match kind {
         Gate::And => and_gate(net, a, b),

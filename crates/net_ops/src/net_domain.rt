@@ -1,6 +1,6 @@
 ghost use Rattle.std.specs.Prelude.{◌≡◌, length};
 ghost use Rattle.std.proofs.lemmas.List.{length-map};
-ghost use Rattle.cyc_net.specs.Nets.{value};
+ghost use Rattle.cyc_net.specs.Nets.{value, has_leaf};
 ghost use Rattle.value_domain.specs.Meaning.{Meaning};
 ghost use Rattle.net_ops.specs.Words.{AreNodes, read};
 
@@ -14,6 +14,7 @@ use std::alloc::Global;
 use value_domain::Domain;
 
 /// The domain of words of nodes, the lowest bit first: under a valuation of the net's leaves a word stands for the bits of its nodes.
+/// The leaves of the net are the variables of the domain, and no operation makes one more.
 #[derive(Drop)]
 pub struct NetDomain {
     pub net: Net,
@@ -32,7 +33,7 @@ impl NetDomain {
 impl Domain for NetDomain {
     type Value = Items<NodeId>;
 
-    ghost meaning = { record { width = length; is_value = λ domain x. AreNodes domain.net x; reads = λ domain v x. read domain.net v x } };
+    ghost meaning = { record { width = length; is_value = λ domain x. AreNodes domain.net x; reads = λ domain v x. read domain.net v x; base = λ domain i. has_leaf domain.net i } };
 
     ghost as_wide = { λ domain v x h. length-map x (value domain.net v) };
 

@@ -1,7 +1,7 @@
 ghost use Rattle.std.specs.Prelude.{◌≡◌, ◌≤◌, ◌&&◌, length, IfOk};
 ghost use Rattle.bits_core.specs.Numbers.{is_less, number};
 ghost use Rattle.bits_core.specs.Places.{is_set, shifted_right, sign_of};
-ghost use Rattle.cyc_net.specs.Nets.{Extends};
+ghost use Rattle.cyc_net.specs.Nets.{Gated};
 ghost use Rattle.design_core.specs.Operators.{binary_value, is_equal, one_bit, unary_value};
 ghost use Rattle.value_domain.specs.Lengths.{FitsBinary, FitsUnary, binary_length, unary_length};
 ghost use Rattle.value_domain.specs.Words.{turned};
@@ -27,7 +27,7 @@ fn reduced(
 ) -> Result<Items<NodeId>, NoMemory>
     requires { AreNodes net.old a.now }
     ensures made { IfOk result (λ r. IsWord net.new r 1 (λ v. one_bit (turned positive (reduction kind (read net.old v a.now))))) }
-    ensures kept { Extends net.old net.new }
+    ensures kept { Gated net.old net.new }
 {
     let node = reduce(net, kind, a)?;
     truth(alloc, net, node, positive)
@@ -45,7 +45,7 @@ fn equality(
     requires second { AreNodes net.old b.now }
     requires same { length a.now ≡ length b.now }
     ensures made { IfOk result (λ r. IsWord net.new r 1 (λ v. one_bit (turned positive (is_equal (read net.old v a.now) (read net.old v b.now))))) }
-    ensures kept { Extends net.old net.new }
+    ensures kept { Gated net.old net.new }
 {
     let unlike = join_all(alloc, net, Gate::Xor, a, b)?;
     reduced(alloc, net, Reduction::Or, !positive, unlike.as_slice())
@@ -62,7 +62,7 @@ fn logic(
     requires first { AreNodes net.old a.now }
     requires second { AreNodes net.old b.now }
     ensures made { IfOk result (λ r. IsWord net.new r 1 (λ v. one_bit (gate_of kind (is_set (read net.old v a.now)) (is_set (read net.old v b.now))))) }
-    ensures kept { Extends net.old net.new }
+    ensures kept { Gated net.old net.new }
 {
     let first = reduce(net, Reduction::Or, a)?;
     let second = reduce(net, Reduction::Or, b)?;
@@ -83,7 +83,7 @@ fn order(
     requires second { AreNodes net.old b.now }
     requires same { length a.now ≡ length b.now }
     ensures made { IfOk result (λ r. IsWord net.new r 1 (λ v. one_bit (turned positive (is_less signed (read net.old v a.now) (read net.old v b.now))))) }
-    ensures kept { Extends net.old net.new }
+    ensures kept { Gated net.old net.new }
 {
     let less = below(net, signed, a, b)?;
     truth(alloc, net, less, positive)
@@ -100,7 +100,7 @@ fn moved_down(
     requires first { AreNodes net.old a.now }
     requires second { AreNodes net.old by.now }
     ensures made { IfOk result (λ r. IsWord net.new r (length a.now) (λ v. shifted_right (by_sign && sign_of (read net.old v a.now)) (number (read net.old v by.now)) (read net.old v a.now))) }
-    ensures kept { Extends net.old net.new }
+    ensures kept { Gated net.old net.new }
 {
     let fill = sign_node(net, a, by_sign);
     shifted_down(alloc, net, fill, a, by)
@@ -117,7 +117,7 @@ pub fn unary_nodes(
     requires fits { FitsUnary op (length a.now) }
     requires are { AreNodes net.old a.now }
     ensures made { IfOk result (λ r. IsWord net.new r (unary_length op (length a.now)) (λ v. unary_value op (read net.old v a.now))) }
-    ensures kept { Extends net.old net.new }
+    ensures kept { Gated net.old net.new }
 {
     match op {
         Unary::Negate => negation(alloc, net, a),
@@ -147,7 +147,7 @@ pub fn binary_nodes(
     requires first { AreNodes net.old a.now }
     requires second { AreNodes net.old b.now }
     ensures made { IfOk result (λ r. IsWord net.new r (binary_length op (length a.now)) (λ v. binary_value op signed (read net.old v a.now) (read net.old v b.now))) }
-    ensures kept { Extends net.old net.new }
+    ensures kept { Gated net.old net.new }
 {
     match op {
         Binary::Add => sum(alloc, net, a, b),

@@ -1,7 +1,7 @@
 ghost use Rattle.std.specs.Prelude.{◌≡◌, ◌<◌, length, IfOk, if◌then◌else◌};
 ghost use Rattle.bits_core.specs.Numbers.{number};
 ghost use Rattle.bits_core.specs.Places.{shifted_left, shifted_right};
-ghost use Rattle.cyc_net.specs.Nets.{value, Extends};
+ghost use Rattle.cyc_net.specs.Nets.{value, Gated};
 ghost use Rattle.net_ops.specs.Moves.{come, moved};
 ghost use Rattle.net_ops.specs.Words.{AreNodes, IsBit, IsWord, read};
 
@@ -42,7 +42,7 @@ fn stage(
     requires test { test < length net.old }
     requires word { AreNodes net.old a.now }
     ensures made { IfOk result (λ r. IsWord net.new r (length a.now) (λ v. if value net.old v test then moved left (value net.old v fill) by (read net.old v a.now) else read net.old v a.now)) }
-    ensures kept { Extends net.old net.new }
+    ensures kept { Gated net.old net.new }
 {
     let mut out = Items::new(alloc);
     for at in 0..a.len() {
@@ -66,7 +66,7 @@ fn shifted(
     requires word { AreNodes net.old a.now }
     requires amount { AreNodes net.old by.now }
     ensures made { IfOk result (λ r. IsWord net.new r (length a.now) (λ v. moved left (value net.old v fill) (number (read net.old v by.now)) (read net.old v a.now))) }
-    ensures kept { Extends net.old net.new }
+    ensures kept { Gated net.old net.new }
 {
     let mut now = copy_nodes(alloc, a)?;
     let mut at = 0;
@@ -95,7 +95,7 @@ pub fn shifted_up(
     requires word { AreNodes net.old a.now }
     requires amount { AreNodes net.old by.now }
     ensures made { IfOk result (λ r. IsWord net.new r (length a.now) (λ v. shifted_left (number (read net.old v by.now)) (read net.old v a.now))) }
-    ensures kept { Extends net.old net.new }
+    ensures kept { Gated net.old net.new }
 {
     let zero = net.zero();
     shifted(alloc, net, true, zero, a, by)
@@ -114,7 +114,7 @@ pub fn shifted_down(
     requires word { AreNodes net.old a.now }
     requires amount { AreNodes net.old by.now }
     ensures made { IfOk result (λ r. IsWord net.new r (length a.now) (λ v. shifted_right (value net.old v fill) (number (read net.old v by.now)) (read net.old v a.now))) }
-    ensures kept { Extends net.old net.new }
+    ensures kept { Gated net.old net.new }
 {
     shifted(alloc, net, false, fill, a, by)
 }

@@ -1,6 +1,6 @@
 ghost use Rattle.std.specs.Prelude.{◌≡◌, ◌<◌, [], ◌∷◌, length, map, not, IfOk, if◌then◌else◌};
 ghost use Rattle.bits_core.specs.Places.{zip_with};
-ghost use Rattle.cyc_net.specs.Nets.{value, Extends};
+ghost use Rattle.cyc_net.specs.Nets.{value, Gated};
 ghost use Rattle.design_core.specs.Operators.{one_bit};
 ghost use Rattle.value_domain.specs.Words.{turned};
 ghost use Rattle.net_ops.specs.Words.{AreNodes, IsBit, IsWord, folded, gate_of, read, reduction};
@@ -33,7 +33,7 @@ pub fn join_all(
     requires second { AreNodes net.old b.now }
     requires same { length a.now ≡ length b.now }
     ensures made { IfOk result (λ r. IsWord net.new r (length a.now) (λ v. zip_with (gate_of kind) (read net.old v a.now) (read net.old v b.now))) }
-    ensures kept { Extends net.old net.new }
+    ensures kept { Gated net.old net.new }
 {
     let mut out = Items::new(alloc);
     for at in 0..a.len() {
@@ -47,7 +47,7 @@ pub fn join_all(
 pub fn invert_all(alloc: Global, net: &mut Net, a: &[NodeId]) -> Result<Items<NodeId>, NoMemory>
     requires { AreNodes net.old a.now }
     ensures made { IfOk result (λ r. IsWord net.new r (length a.now) (λ v. map not (read net.old v a.now))) }
-    ensures kept { Extends net.old net.new }
+    ensures kept { Gated net.old net.new }
 {
     let mut out = Items::new(alloc);
     for at in 0..a.len() {
@@ -70,7 +70,7 @@ pub fn choose_all(
     requires second { AreNodes net.old b.now }
     requires same { length a.now ≡ length b.now }
     ensures made { IfOk result (λ r. IsWord net.new r (length a.now) (λ v. if value net.old v test then read net.old v a.now else read net.old v b.now)) }
-    ensures kept { Extends net.old net.new }
+    ensures kept { Gated net.old net.new }
 {
     let mut out = Items::new(alloc);
     for at in 0..a.len() {
@@ -85,7 +85,7 @@ fn fold_all(net: &mut Net, kind: Gate, start: NodeId, a: &[NodeId]) -> Result<No
     requires start { start < length net.old }
     requires are { AreNodes net.old a.now }
     ensures made { IfOk result (λ r. IsBit net.new r (λ v. folded (gate_of kind) (value net.old v start) (read net.old v a.now))) }
-    ensures kept { Extends net.old net.new }
+    ensures kept { Gated net.old net.new }
 {
     let mut so_far = start;
     for at in 0..a.len() {
@@ -98,7 +98,7 @@ fn fold_all(net: &mut Net, kind: Gate, start: NodeId, a: &[NodeId]) -> Result<No
 pub fn reduce(net: &mut Net, kind: Reduction, a: &[NodeId]) -> Result<NodeId, NoMemory>
     requires { AreNodes net.old a.now }
     ensures made { IfOk result (λ r. IsBit net.new r (λ v. reduction kind (read net.old v a.now))) }
-    ensures kept { Extends net.old net.new }
+    ensures kept { Gated net.old net.new }
 {
     let zero = net.zero();
     let one = net.one();
@@ -127,7 +127,7 @@ pub fn truth(
 ) -> Result<Items<NodeId>, NoMemory>
     requires { node < length net.old }
     ensures made { IfOk result (λ r. IsWord net.new r 1 (λ v. one_bit (turned positive (value net.old v node)))) }
-    ensures kept { Extends net.old net.new }
+    ensures kept { Gated net.old net.new }
 {
     if positive {
         return alone(alloc, node);

@@ -11,6 +11,7 @@ use Rattle.stmt_exec.specs.Aims.{Hit, SpotTakes, IsTarget, spot_low, hit_of, one
 use Rattle.design_core.specs.Operators.{lowest}
 use Rattle.value_domain.specs.Meaning.{Meaning, Stands, Keeps}
 use Rattle.value_domain.specs.Words.{IsGuard, allows}
+use Rattle.value_domain.proofs.KeepLaws.{keeps_trans}
 use Rattle.stmt_exec.proofs.DomainLaws as d
 
 written_back : (b : Bool) (rows : List (List Bool)) (k : ℕ) (p row : List Bool) → row ≡ get_or rows k [] → slice_set rows k (if b then p else row) ≡ (if b then slice_set rows k p else rows)
@@ -55,7 +56,7 @@ module _ {S V : Type 0} (m : Meaning S V) where
       let one : m.is_value d0 (get_or xs t.vector x) = all t.vector x lt in
       let row : m.reads d1 v (get_or xs t.vector x) ≡ get_or (map (m.reads d0 v) xs) t.vector [] = k.same (get_or xs t.vector x) v one ∙ sym (get_or-map (m.reads d0 v) xs t.vector x [] lt) in
       map-set (m.reads d2 v) xs t.vector new
-      ∙ ap₂ (λ rows y. slice_set rows t.vector y) (d.kept_reads m d0 d2 v xs (d.keeps_trans m d0 d1 d2 k l) all)
+      ∙ ap₂ (λ rows y. slice_set rows t.vector y) (d.kept_reads m d0 d2 v xs (keeps_trans m d0 d1 d2 k l) all)
       (s.reads_as v
       ∙ ap (λ c. if c then placed (spot_low m d1 v t.spot) (m.reads d1 v bits) (m.reads d1 v (get_or xs t.vector x)) else m.reads d1 v (get_or xs t.vector x)) (d.kept_allows m d0 d1 v guard k gi)
       ∙ ap₂ (λ p y. if allows m d0 v guard then placed p y (m.reads d1 v (get_or xs t.vector x)) else m.reads d1 v (get_or xs t.vector x))

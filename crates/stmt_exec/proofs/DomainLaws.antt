@@ -14,12 +14,6 @@ choose_same true x y z e f = e
 choose_same false x y z e f = f
 
 module _ {S V : Type 0} (m : Meaning S V) where
-  pub keeps_refl : (d : S) → Keeps m d d
-  keeps_refl d = record { still = λ x h. h; same = λ x v h. refl }
-
-  pub keeps_trans : (a b c : S) → Keeps m a b → Keeps m b c → Keeps m a c
-  keeps_trans a b c k l = record { still = λ x h. l.still x (k.still x h); same = λ x v h. l.same x v (k.still x h) ∙ k.same x v h }
-
   pub kept_all : (old new : S) (xs : List V) → Keeps m old new → All (m.is_value old) xs → All (m.is_value new) xs
   kept_all old new xs k h = All-weaker (m.is_value old) (m.is_value new) k.still xs h
 

@@ -18,6 +18,7 @@ use Rattle.stmt_exec.specs.Choices.{AreGuards, allowed_of, run_each}
 use Rattle.stmt_exec.specs.State.{IsFrame, IsLike, assignment, expr_value, local_widths, env_state, locals_in, ran, signal_widths, signals_in, size_for, size_in, state_in}
 use Rattle.stmt_exec.specs.Runs.{AreValues, AreWorth, CanAsk, CanRun, Follows, IsResolved}
 use Rattle.stmt_exec.proofs.ChoiceLaws.{is_write, parts_run, run_none}
+use Rattle.value_domain.proofs.KeepLaws.{keeps_trans}
 use Rattle.stmt_exec.proofs.DomainLaws as d
 use Rattle.stmt_exec.proofs.EvalLaws.{written_back}
 use Rattle.stmt_exec.proofs.GuardLaws.{kept_allowed, kept_guards}
@@ -142,7 +143,7 @@ module _ {S V : Type 0} (m : Meaning S V) where
       (state_in m d2 v inside outer now next))
       → Follows m d0 d3 guard inside outer now next now3 next3 (write (core_left (size_for m inside outer now) l) (term (size_for m inside outer now) e) blocking)
   write_made d0 d1 d2 d3 inside outer now next now3 next3 l e blocking guard x ts f g k j s r done v =
-      let all = d.keeps_trans m d0 d1 d2 k j in
+      let all = keeps_trans m d0 d1 d2 k j in
       let vs = values_of d0 inside outer now next f in
       let L = core_left (size_for m inside outer now) l in
       let t = state_in m d0 v inside outer now next in

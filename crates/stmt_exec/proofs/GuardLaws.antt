@@ -14,6 +14,7 @@ use Rattle.value_domain.specs.Meaning.{Meaning, Keeps}
 use Rattle.value_domain.specs.Words.{IsGuard, IsWord, allows, turned}
 use Rattle.stmt_exec.specs.Choices.{AllTell, AreGuards, ItemFits, Tells, arm_hits, firsts, some_hit}
 use Rattle.stmt_exec.proofs.ChoiceLaws.{set_one}
+use Rattle.value_domain.proofs.KeepLaws.{keeps_trans}
 use Rattle.stmt_exec.proofs.DomainLaws as d
 use Rattle.stmt_exec.proofs.StandingLaws as s
 
@@ -56,7 +57,7 @@ module _ {S V : Type 0} (m : Meaning S V) where
   pub more_guards : (dn d1 d2 : S) (gs more : List (Option V)) (on : V) → Keeps m dn d1 → Keeps m d1 d2 → All (IsGuard m dn) gs → m.is_value d1 on → more ≡ gs ++ Some on ∷ []
       → All (IsGuard m d2) more
   more_guards dn d1 d2 gs more on k l are i e =
-      subst (All (IsGuard m d2)) (sym e) (All-push (IsGuard m d2) gs (Some on) (kept_guards dn d2 gs (d.keeps_trans m dn d1 d2 k l) are) (l.still on i))
+      subst (All (IsGuard m d2)) (sym e) (All-push (IsGuard m d2) gs (Some on) (kept_guards dn d2 gs (keeps_trans m dn d1 d2 k l) are) (l.still on i))
 
   -- one more test
   pub first_step : (d0 dn d1 d2 : S) (guard left : Option V) (tests : List V) (at : ℕ) (t u : V) (gs more : List (Option V)) (on off : V) → at < length tests → All (m.is_value d0) tests
@@ -80,7 +81,7 @@ module _ {S V : Type 0} (m : Meaning S V) where
       let on_is : is_set (m.reads d2 v on) ≡ (a && turned true b) = ap is_set (n.same on v o.0) ∙ o.1 v ∙ ap (λ y. a && turned true y) one in
       let off_is : is_set (m.reads d2 v off) ≡ (a && turned false b) = p.1 v ∙ ap₂ (λ x y. x && turned false y) (d.kept_allows m dn d1 v left l left_is) other in
       let front : map (allows m d2 v) more ≡ map (allows m dn v) gs ++ (a && turned true b) ∷ [] =
-      ap (map (allows m d2 v)) e ∙ map-append (allows m d2 v) gs (Some on ∷ []) ∙ ap₂ (λ x y. x ++ y ∷ []) (kept_allowed dn d2 v gs (d.keeps_trans m dn d1 d2 l n) are) on_is in
+      ap (map (allows m d2 v)) e ∙ map-append (allows m d2 v) gs (Some on ∷ []) ∙ ap₂ (λ x y. x ++ y ∷ []) (kept_allowed dn d2 v gs (keeps_trans m dn d1 d2 l n) are) on_is in
       let next : b ∷ told (drop (at + 1) tests) ≡ told (drop at tests) =
       ap (λ x. is_set (m.reads d0 v x) ∷ told (drop (at + 1) tests)) is ∙ sym (ap told (drop_more tests at t lt)) in
       ap₂ (λ x y. x ++ firsts y (told (drop (at + 1) tests))) front off_is

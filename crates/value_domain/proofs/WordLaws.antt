@@ -47,9 +47,6 @@ free_match (x ∷ a) (y ∷ b) (false ∷ f) e g = differs (exclusive_or x y) (i
     differs false r = refl
 
 module _ {S V : Type 0} (m : Meaning S V) where
-  pub keeps_trans : (a b c : S) → Keeps m a b → Keeps m b c → Keeps m a c
-  keeps_trans a b c k l = record { still = λ x h. l.still x (k.still x h); same = λ x v h. l.same x v (k.still x h) ∙ k.same x v h }
-
   module _ (law : (d : S) (v : ℕ → Bool) (x : V) → m.is_value d x → length (m.reads d v x) ≡ m.width x) where
     pub join_made : (d0 d1 d2 : S) (low high : Word V) (wide value : V) (z : ℤ) → z ≡ pos low.length → IsWord m d0 low → IsWord m d0 high → Keeps m d0 d1
         → Stands m d1 wide (low.length + high.length) (λ v. extended false (low.length + high.length) (m.reads d0 v low.value))

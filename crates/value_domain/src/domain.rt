@@ -10,11 +10,11 @@ use design_core::{Binary, Unary};
 /// Values that stand for bit lists: bits themselves, or nodes of a net whose leaves a valuation gives.
 ///
 /// Each operation gives a value that stands, under each valuation, for the operator on what its operands stand for; and the values
-/// made before stand for what they stood for, after want of memory too.
+/// made before stand for what they stood for, after want of memory too. No operation makes a variable.
 pub trait Domain {
     type Value: Drop;
 
-    /// The width of a value, what a value of the domain is, and what it reads as under a valuation.
+    /// The width of a value, what a value of the domain is, what it reads as under a valuation, and which variables stand in the domain.
     ghost meaning: { Meaning Self Self.Value };
 
     /// A constant.

@@ -1,4 +1,4 @@
-ghost use Rattle.std.specs.Prelude.{◌≡◌, length, refl};
+ghost use Rattle.std.specs.Prelude.{◌≡◌, false, length, refl};
 ghost use Rattle.value_domain.specs.Meaning.{Meaning};
 
 use crate::domain::Domain;
@@ -8,7 +8,7 @@ use bits_core::{Bits, NoMemory};
 use design_core::{Binary, Unary};
 use std::alloc::Global;
 
-/// The domain of bit lists: each stands for itself, and valuations play no part.
+/// The domain of bit lists: each stands for itself, valuations play no part, and no variable stands in it.
 #[derive(Drop)]
 pub struct BitsDomain {
     alloc: Global,
@@ -24,7 +24,7 @@ impl BitsDomain {
 impl Domain for BitsDomain {
     type Value = Bits;
 
-    ghost meaning = { record { width = length; is_value = λ domain x. Unit {0}; reads = λ domain v x. x } };
+    ghost meaning = { record { width = length; is_value = λ domain x. Unit {0}; reads = λ domain v x. x; base = λ domain i. false } };
 
     ghost as_wide = { λ domain v x h. refl };
 

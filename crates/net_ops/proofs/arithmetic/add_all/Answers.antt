@@ -1,5 +1,5 @@
 use Rattle.std.proofs.Common.{arith}
-use Rattle.cyc_net.proofs.NetLaws.{Extends-trans}
+use Rattle.cyc_net.proofs.NetLaws.{Gated-trans}
 use Rattle.net_ops.proofs.BuiltLaws.{still_nodes}
 use Rattle.net_ops.proofs.WordSums as w
 use Rattle.net_ops.proofs.arithmetic.add_all.Goals as goal
@@ -17,10 +17,10 @@ pub add_place-requires-clause-carry : goal.add_place-requires-clause-carry
 add_place-requires-clause-carry c = c.loop-at.invariant.within
 
 pub returns-in_err-digit-clause-kept : goal.returns-in_err-digit-clause-kept
-returns-in_err-digit-clause-kept c = Extends-trans c.args.net.now c.loop-at.net c.add_place.new.net c.loop-at.invariant.kept c.add_place.ensures.kept
+returns-in_err-digit-clause-kept c = Gated-trans c.args.net.now c.loop-at.net c.add_place.new.net c.loop-at.invariant.kept c.add_place.ensures.kept
 
 pub returns-in_err-push-clause-kept : goal.returns-in_err-push-clause-kept
-returns-in_err-push-clause-kept c = Extends-trans c.args.net.now c.loop-at.net c.add_place.new.net c.loop-at.invariant.kept c.add_place.ensures.kept
+returns-in_err-push-clause-kept c = Gated-trans c.args.net.now c.loop-at.net c.add_place.new.net c.loop-at.invariant.kept c.add_place.ensures.kept
 
 pub loop-at-preserved : goal.loop-at-preserved
 loop-at-preserved c =

@@ -1,6 +1,6 @@
 use Rattle.std.proofs.Common.{◌-◌, ◌∙◌, sym, subst, map, get_or}
 use Rattle.stmt_exec.specs.Aims.{IsTarget}
-use Rattle.stmt_exec.proofs.DomainLaws as d
+use Rattle.value_domain.proofs.KeepLaws.{keeps_trans}
 use Rattle.stmt_exec.proofs.AimLaws as a
 use Rattle.stmt_exec.proofs.aims.write_all.Goals as goal
 
@@ -14,7 +14,7 @@ loop-at-preserved g c =
     let i = c.loop-at.invariant in
     let less = a.left_less ts at t c.loop-at.left c.loop-at-test.true i.bits in
     record {
-      kept = d.keeps_trans m c.args.domain.now c.loop-at.domain c.write_one.new.domain i.kept c.write_one.ensures.kept;
+      kept = keeps_trans m c.args.domain.now c.loop-at.domain c.write_one.new.domain i.kept c.write_one.ensures.kept;
       are = c.write_one.ensures.are;
       wide = c.write_one.ensures.wide ∙ i.wide;
       bits = less;

@@ -1,4 +1,4 @@
-use Rattle.stmt_exec.proofs.DomainLaws as d
+use Rattle.value_domain.proofs.KeepLaws.{keeps_trans}
 use Rattle.stmt_exec.proofs.GuardLaws as l
 use Rattle.stmt_exec.proofs.choices.any_hit.Goals as goal
 
@@ -15,7 +15,7 @@ loop-at-preserved g c =
     let d1 = c.matched.new.domain in
     let d2 = c.binary.new.self in
     record {
-      kept = d.keeps_trans m c.args.domain.now dn d2 i.kept (d.keeps_trans m dn d1 d2 c.matched.ensures.kept c.binary.ensures.kept);
+      kept = keeps_trans m c.args.domain.now dn d2 i.kept (keeps_trans m dn d1 d2 c.matched.ensures.kept c.binary.ensures.kept);
       is_one = c.in_ok-any-2.ensures.made.is_one;
       rest = λ v. l.hit_step m c.args.domain.now dn d1 d2 c.args.items.now c.args.selector.now c.args.values.now c.loop-at.at c.index-items-at.result c.index-values-at.result c.loop-at.any c.in_ok-hit.hit c.in_ok-any-2.any
           c.loop-at-test.true c.requires.selector_is c.requires.values_are c.requires.fit c.requires.long i.kept c.matched.ensures.kept i.is_one

@@ -1,4 +1,4 @@
-use Rattle.stmt_exec.proofs.DomainLaws as d
+use Rattle.value_domain.proofs.KeepLaws.{keeps_trans}
 use Rattle.stmt_exec.proofs.GuardLaws as l
 use Rattle.stmt_exec.proofs.choices.first_of.Goals as goal
 
@@ -12,7 +12,7 @@ loop-at-preserved g c =
     let d1 = c.narrowed.new.domain in
     let d2 = c.narrowed-in-loop-at.new.domain in
     record {
-      kept = d.keeps_trans m c.args.domain.now dn d2 i.kept (d.keeps_trans m dn d1 d2 k n);
+      kept = keeps_trans m c.args.domain.now dn d2 i.kept (keeps_trans m dn d1 d2 k n);
       are = l.more_guards m dn d1 d2 c.loop-at.guards.items c.push.new.self.items c.in_ok-on.on k n i.are c.in_ok-on.ensures.made.0 c.in_ok-push.ensures.items;
       left_is = c.in_ok-off.ensures.made.0;
       rest = λ v. l.first_step m c.args.domain.now dn d1 d2 c.args.guard.now c.loop-at.left c.args.tests.now c.loop-at.at c.index-tests-at.result c.index-tests-at-in-loop-at.result

@@ -1,4 +1,4 @@
-use Rattle.stmt_exec.proofs.DomainLaws as d
+use Rattle.value_domain.proofs.KeepLaws.{keeps_trans}
 use Rattle.stmt_exec.proofs.GuardLaws as l
 use Rattle.stmt_exec.proofs.choices.hits.Goals as goal
 
@@ -7,10 +7,10 @@ any_hit-requires-clause-long g c =
     l.arm_long g.D.Domain.meaning c.args.values.now c.args.arms.now c.loop-at.from c.loop-at.at c.index-arms-at.result c.as_slice.result.now c.loop-at-test.true c.as_slice.ensures c.loop-at.invariant.long
 
 pub returns-in_err-hit-clause-kept : goal.returns-in_err-hit-clause-kept
-returns-in_err-hit-clause-kept g c = d.keeps_trans g.D.Domain.meaning c.args.domain.now c.loop-at.domain c.any_hit.new.domain c.loop-at.invariant.kept c.any_hit.ensures.kept
+returns-in_err-hit-clause-kept g c = keeps_trans g.D.Domain.meaning c.args.domain.now c.loop-at.domain c.any_hit.new.domain c.loop-at.invariant.kept c.any_hit.ensures.kept
 
 pub returns-in_err-push-clause-kept : goal.returns-in_err-push-clause-kept
-returns-in_err-push-clause-kept g c = d.keeps_trans g.D.Domain.meaning c.args.domain.now c.loop-at.domain c.any_hit.new.domain c.loop-at.invariant.kept c.any_hit.ensures.kept
+returns-in_err-push-clause-kept g c = keeps_trans g.D.Domain.meaning c.args.domain.now c.loop-at.domain c.any_hit.new.domain c.loop-at.invariant.kept c.any_hit.ensures.kept
 
 pub loop-at-preserved : goal.loop-at-preserved
 loop-at-preserved g c =
@@ -29,7 +29,7 @@ loop-at-preserved g c =
     let a = c.index-arms-at.result in
     let b = c.index-arms-at-in-loop-at.result in
     record {
-      kept = d.keeps_trans m d0 dn d1 i.kept c.any_hit.ensures.kept;
+      kept = keeps_trans m d0 dn d1 i.kept c.any_hit.ensures.kept;
       are = l.more_values m dn d1 c.loop-at.all.items c.push.new.self.items c.in_ok-hit.hit c.any_hit.ensures.kept i.are c.in_ok-hit.ensures.made.is_one c.in_ok-push.ensures.items;
       within = l.arm_within m values arms from at k b lt many i.within i.long;
       long = l.arm_next m values arms from at k b lt many i.long;

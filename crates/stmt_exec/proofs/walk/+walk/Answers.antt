@@ -21,6 +21,7 @@ use Rattle.value_domain.specs.Words.{IsGuard, IsWord, allows}
 use Rattle.stmt_exec.specs.Choices.{AreGuards, allowed_of}
 use Rattle.stmt_exec.specs.State.{IsFrame, Standing, expr_value, local_widths, locals_in, signal_widths, size_for}
 use Rattle.stmt_exec.specs.Runs.{AreWorth, CanRun, Follows, IsResolved, called}
+use Rattle.value_domain.proofs.KeepLaws.{keeps_trans}
 use Rattle.stmt_exec.proofs.DomainLaws as d
 use Rattle.stmt_exec.proofs.StandingLaws as s
 use Rattle.stmt_exec.proofs.LayerLaws.{formed_items}
@@ -94,7 +95,7 @@ eval_in-returns g t c =
     let m = g.D.Domain.meaning in
     record {
       made = IfOk-weaker c.combine.result _ _ (λ r made. e.stands_back m c.args.domain.now c.eval_all.new.domain c.combine.new.domain c.args.signals.now c.args.locals.now c.args.e.now r c.eval_all.ensures.kept c.requires.values made) c.combine.ensures.made;
-      kept = d.keeps_trans m c.args.domain.now c.eval_all.new.domain c.combine.new.domain c.eval_all.ensures.kept c.combine.ensures.kept;
+      kept = keeps_trans m c.args.domain.now c.eval_all.new.domain c.combine.new.domain c.eval_all.ensures.kept c.combine.ensures.kept;
     }
 
 pub eval_all-eval_in-requires : goal.eval_all-eval_in-requires
@@ -119,7 +120,7 @@ eval_all-loop-at-preserved g t c =
     let vs = map m.width c.args.signals.now in
     let ls = map m.width c.args.locals.now in
     record {
-      kept = d.keeps_trans m c.args.domain.now c.loop-at.domain c.eval_in.new.domain c.loop-at.invariant.kept c.eval_in.ensures.kept;
+      kept = keeps_trans m c.args.domain.now c.loop-at.domain c.eval_in.new.domain c.loop-at.invariant.kept c.eval_in.ensures.kept;
       worth = e.worth_push m c.args.domain.now c.loop-at.domain c.eval_in.new.domain c.args.signals.now c.args.locals.now (seen c.args.parts.now) c.loop-at.at c.index-parts-at.result.now c.in_ok-value.value c.index-parts-at.result.now.length
           c.loop-at.words.items c.push.new.self.items (w.part_there c.args.parts.now c.loop-at.at c.loop-at-test.true)
           (w.part_is c.args.parts.now c.loop-at.at c.index-parts-at.result c.loop-at-test.true c.index-parts-at.is)
@@ -175,7 +176,7 @@ call-returns-clause-made g t c =
 pub call-returns-clause-kept : goal.call-returns-clause-kept
 call-returns-clause-kept g t c =
     let m = g.D.Domain.meaning in
-    d.keeps_trans m c.args.domain.now c.enter.new.domain c.copy_first.new.domain c.enter.ensures.kept (d.keeps_trans m c.enter.new.domain c.exec_in.new.domain c.copy_first.new.domain c.exec_in.ensures.kept c.copy_first.ensures.kept)
+    keeps_trans m c.args.domain.now c.enter.new.domain c.copy_first.new.domain c.enter.ensures.kept (keeps_trans m c.enter.new.domain c.exec_in.new.domain c.copy_first.new.domain c.exec_in.ensures.kept c.copy_first.ensures.kept)
 
 pub decide-eval_all-requires : goal.decide-eval_all-requires
 decide-eval_all-requires g t c κs within =
@@ -257,7 +258,7 @@ exec_in-loop-at-preserved g t c =
     let child = subst (λ l. get_or l c.loop-at.at c.index.result.now.now ≡ c.index.result.now.now) c.in_ok-statements.ensures (w.part_is c.in_ok-statements.statements.items c.loop-at.at c.index.result.now lt c.index.ensures) in
     let guard = w.guard_there c.in_ok-statements.statements.items c.in_ok-guards.guards.items c.args.body.now c.loop-at.at c.in_ok-statements.ensures c.in_ok-guards.ensures.many lt in
     record {
-      kept = d.keeps_trans m c.args.domain.now c.loop-at.domain c.exec_in.new.domain i.kept c.exec_in.ensures.kept;
+      kept = keeps_trans m c.args.domain.now c.loop-at.domain c.exec_in.new.domain i.kept c.exec_in.ensures.kept;
       like = x.like_from m c.exec_in.new.domain c.args.inside c.args.outer.now c.exec_in.new.now c.exec_in.new.next c.loop-at.now c.args.now.now c.exec_in.ensures.like i.like.now_wide;
       guards_are = x.guards_later m c.loop-at.domain c.exec_in.new.domain c.in_ok-guards.guards.items _ c.exec_in.ensures.kept i.guards_are;
       rest = λ v. x.rest_step m c.loop-at.domain c.exec_in.new.domain c.args.inside c.args.outer.now c.loop-at.now c.loop-at.next c.exec_in.new.now c.exec_in.new.next c.args.now.now c.index.result.now.now (children_of c.args.body.now) c.loop-at.at
@@ -285,7 +286,7 @@ exec_write-assign-requires-clause-bits g t c =
 pub exec_write-returns-clause-kept : goal.exec_write-returns-clause-kept
 exec_write-returns-clause-kept g t c =
     let m = g.D.Domain.meaning in
-    d.keeps_trans m c.args.domain.now c.eval_in.new.domain c.assign.new.domain c.eval_in.ensures.kept (d.keeps_trans m c.eval_in.new.domain c.resolve.new.domain c.assign.new.domain c.resolve.ensures.kept c.assign.ensures.kept)
+    keeps_trans m c.args.domain.now c.eval_in.new.domain c.assign.new.domain c.eval_in.ensures.kept (keeps_trans m c.eval_in.new.domain c.resolve.new.domain c.assign.new.domain c.resolve.ensures.kept c.assign.ensures.kept)
 
 pub exec_write-returns-clause-done : goal.exec_write-returns-clause-done
 exec_write-returns-clause-done g t c =
@@ -345,17 +346,17 @@ resolve-resolve-requires g t c κs within =
 
 pub resolve-returns-in_err-more-in-Concat-clause-kept : goal.resolve-returns-in_err-more-in-Concat-clause-kept
 resolve-returns-in_err-more-in-Concat-clause-kept g t c =
-    d.keeps_trans g.D.Domain.meaning c.args.domain.now c.loop-at.domain c.resolve.new.domain c.loop-at.invariant.kept c.resolve.ensures.kept
+    keeps_trans g.D.Domain.meaning c.args.domain.now c.loop-at.domain c.resolve.new.domain c.loop-at.invariant.kept c.resolve.ensures.kept
 
 pub resolve-returns-in_err-append-in-Concat-clause-kept : goal.resolve-returns-in_err-append-in-Concat-clause-kept
 resolve-returns-in_err-append-in-Concat-clause-kept g t c =
-    d.keeps_trans g.D.Domain.meaning c.args.domain.now c.loop-at.domain c.resolve.new.domain c.loop-at.invariant.kept c.resolve.ensures.kept
+    keeps_trans g.D.Domain.meaning c.args.domain.now c.loop-at.domain c.resolve.new.domain c.loop-at.invariant.kept c.resolve.ensures.kept
 
 pub resolve-loop-at-preserved : goal.resolve-loop-at-preserved
 resolve-loop-at-preserved g t c =
     let m = g.D.Domain.meaning in
     record {
-      kept = d.keeps_trans m c.args.domain.now c.loop-at.domain c.resolve.new.domain c.loop-at.invariant.kept c.resolve.ensures.kept;
+      kept = keeps_trans m c.args.domain.now c.loop-at.domain c.resolve.new.domain c.loop-at.invariant.kept c.resolve.ensures.kept;
       first = r.parts_push m c.args.domain.now c.loop-at.domain c.resolve.new.domain c.args.inside c.args.outer.now c.args.now.now c.as_slice-parts.result.now c.loop-at.at c.index-parts-at.result c.loop-at.all.items c.in_ok-more-in-Concat.more.items
           c.append.new.self.items c.loop-at-test.true (sym c.index-parts-at.is)
           (r.values_in m c.args.domain.now c.args.inside c.args.outer.now c.args.now.now c.requires.outer_are c.requires.now_are) c.loop-at.invariant.kept c.resolve.ensures.kept c.loop-at.invariant.first c.in_ok-more-in-Concat.ensures.made c.in_ok-append-in-Concat.ensures.items;

@@ -6,6 +6,7 @@ use mir.Syntax.{w64}
 use Rattle.design_core.specs.Operators.{lowest}
 use Rattle.std.proofs.lemmas.Result.{IfOk-weaker}
 use Rattle.value_domain.proofs.MoveLaws as mv
+use Rattle.value_domain.proofs.KeepLaws as k
 use Rattle.value_domain.proofs.WordLaws as w
 use Rattle.value_domain.proofs.variable.place_at.Goals as goal
 
@@ -14,7 +15,7 @@ spread-requires-clause-zero g c = mv.zeros_read g.D.Domain.meaning g.met.D.Domai
 
 pub spread-requires-2-clause-zero : goal.spread-requires-2-clause-zero
 spread-requires-2-clause-zero g c = mv.zeros_read g.D.Domain.meaning g.met.D.Domain.as_wide c.move_by.new.domain c.binary.new.self c.spread.new.domain c.args.whole.now c.in_ok-zeros.zeros (c.move_by.ensures.kept.still c.args.whole.now c.requires.whole_is)
-    (w.keeps_trans g.D.Domain.meaning c.binary.new.self c.ones.new.domain c.spread.new.domain c.ones.ensures.kept c.spread.ensures.kept) c.in_ok-zeros.ensures.made
+    (k.keeps_trans g.D.Domain.meaning c.binary.new.self c.ones.new.domain c.spread.new.domain c.ones.ensures.kept c.spread.ensures.kept) c.in_ok-zeros.ensures.made
 
 pub returns-clause-made : goal.returns-clause-made
 returns-clause-made g c =

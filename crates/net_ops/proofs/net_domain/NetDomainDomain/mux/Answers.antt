@@ -1,4 +1,4 @@
-use Rattle.cyc_net.proofs.NetLaws.{Extends-trans}
+use Rattle.cyc_net.proofs.NetLaws.{Gated-trans}
 use Rattle.net_ops.specs.declared.net_domain.NetDomain.{NetDomain}
 use Rattle.net_ops.proofs.MeaningLaws as m
 use Rattle.net_ops.proofs.net_domain.NetDomainDomain.mux.Goals as goal
@@ -8,7 +8,7 @@ returns-in_err-test-clause-kept c = m.keeps (λ (d : NetDomain). d.net) c.args.s
 
 pub returns-clause-kept : goal.returns-clause-kept
 returns-clause-kept c =
-    m.keeps (λ (d : NetDomain). d.net) c.args.self.now _ (Extends-trans c.args.self.now.net c.reduce.new.net c.choose_all.new.net c.reduce.ensures.kept c.choose_all.ensures.kept)
+    m.keeps (λ (d : NetDomain). d.net) c.args.self.now _ (Gated-trans c.args.self.now.net c.reduce.new.net c.choose_all.new.net c.reduce.ensures.kept c.choose_all.ensures.kept)
 
 pub returns-clause-made : goal.returns-clause-made
 returns-clause-made c =
