@@ -1,5 +1,6 @@
 ghost use Rattle.std.specs.Prelude.{◌≡◌, ℕ, ◌+◌, ◌<◌, ◌≤◌, ◌^◌, [], Bool, true, length, All, IfOk, OnOk};
 ghost use Rattle.cnf_core.specs.Closed.{AreDecided};
+ghost use Rattle.cnf_core.specs.DimacsText.{IsInText};
 ghost use Rattle.cnf_core.specs.Lit.{variable_of};
 ghost use Rattle.cyc_net.specs.Nets.{LeavesBelow, LeafBelow, bit_at};
 ghost use Rattle.tseitin_cnf.specs.Encoding.{IsEncoded, IsReadSet, IsReadClosed, Walk, walk, begin, with_node};
@@ -128,6 +129,7 @@ pub fn encode(alloc: Global, net: &Net, leaves: u32, goal: NodeId) -> Result<Enc
     ensures leaves { IfOk result (λ encoded. encoded.leaves ≤ encoded.formula.variables) }
     ensures small { IfOk result (λ encoded. encoded.formula.variables < 2 ^ 30) }
     ensures few { IfOk result (λ encoded. length encoded.formula.clauses < 2 ^ 60) }
+    ensures text { IfOk result (λ encoded. IsInText encoded.formula) }
     ensures decided { IfOk result (λ encoded. AreDecided encoded.formula.clauses encoded.formula.variables encoded.leaves) }
 {
     let marks = mark_read(alloc, net, goal)?;
