@@ -5,7 +5,8 @@ use Rattle.std.specs.List.{prefix_len, list_any}
 use Rattle.std.specs.Str.{bytes_eq, IsUtf8, is_utf8}
 use Rattle.std.proofs.lemmas.Str.{IsUtf8-from_is_utf8, is_utf8-from_IsUtf8}
 use Rattle.std.proofs.lemmas.List.Sums.{prefix_len-le-length}
-use Rattle.bits_core.specs.declared.names.File.{File}
+use Rattle.vl_lex.specs.declared.source.Source.{Source}
+use Rattle.vl_lex.specs.Sources.{files_of}
 use Rattle.vl_lex.specs.declared.lexer.Lined.{Lined}
 use Rattle.vl_lex.specs.Bytes.{Text}
 use Rattle.vl_lex.specs.Lexed.{placed}
@@ -30,12 +31,12 @@ body_seen zero xs = refl
 body_seen (suc n) [] = refl
 body_seen (suc n) (x ∷ xs) = ap (λ z. placed x ∷ z) (body_seen n xs)
 
-pub find_turn : (at : ℕ) (d f : File) (name : Text) (files : List File) → at < length files → get_or files at d ≡ f
-    → find_file at name (drop at files) ≡ (if bytes_eq f.name name then Some at else find_file (at + 1) name (drop (at + 1) files))
-find_turn at d f name files h e = ap (find_file at name) (split_items files at d f h e)
+pub find_turn : (at : ℕ) (d f : Source) (name : Text) (files : List Source) → at < length files → get_or files at d ≡ f
+    → find_file at name (files_of (drop at files)) ≡ (if bytes_eq f.name.now name then Some at else find_file (at + 1) name (files_of (drop (at + 1) files)))
+find_turn at d f name files h e = ap (λ z. find_file at name (files_of z)) (split_items files at d f h e)
 
-pub find_over : (at : ℕ) (name : Text) (files : List File) → length files ≤ at → find_file at name (drop at files) ≡ None
-find_over at name files h = ap (find_file at name) (none_behind files at h)
+pub find_over : (at : ℕ) (name : Text) (files : List Source) → length files ≤ at → find_file at name (files_of (drop at files)) ≡ None
+find_over at name files h = ap (λ z. find_file at name (files_of z)) (none_behind files at h)
 
 pub ruleset finds = (find_turn, find_over)
 

@@ -180,7 +180,7 @@ step_cases fs bs s true f o p fed a = a
 step_cases fs bs s false true o p fed a = (same (and_then fed (λ n. passed bs n)), fed_within fs bs fed)
 step_cases fs bs s false false o p fed a = (same (passed bs s), tt)
 
-step_alike : (levels : ℕ) (fs extra : List File) (bs : SBranches) (s : SState) (t : Placed) (ts : List Placed) → StepAlike fs (step levels fs bs s t ts) (step levels (fs ++ extra) bs s t ts)
+pub step_alike : (levels : ℕ) (fs extra : List File) (bs : SBranches) (s : SState) (t : Placed) (ts : List Placed) → StepAlike fs (step levels fs bs s t ts) (step levels (fs ++ extra) bs s t ts)
 unfolding step
 step_alike levels fs extra bs s t ts =
     step_cases fs bs s (is_directive t.token.kind) bs.active (directive_step levels fs (directive_of (directive_name t.token)) bs s t ts) (directive_step levels (fs ++ extra) (directive_of (directive_name t.token)) bs s t ts) (fed_state s t)
@@ -191,14 +191,14 @@ step_alike levels fs extra bs s t ts =
 abbrev pub SameInner : List File → (ℕ → SState → Reached SState) → (ℕ → SState → Reached SState) → Type 0
 SameInner fs f g = (i : ℕ) (s : SState) → i < length fs → Same (f i s) (g i s)
 
-entered_same : (fs : List File) (f g : ℕ → SState → Reached SState) (o : Option ℕ) (s : SState) → SameInner fs f g → Enters fs o → Same (entered f o s) (entered g o s)
+pub entered_same : (fs : List File) (f g : ℕ → SState → Reached SState) (o : Option ℕ) (s : SState) → SameInner fs f g → Enters fs o → Same (entered f o s) (entered g o s)
 entered_same fs f g None s n w = same (Ok s)
 entered_same fs f g (Some i) s n w = n i s w
 
-step_enters : (fs : List File) (o : Reached Step) (p : Step) → o ≡ Ok p → StepWithin fs o → Enters fs p.enter
+pub step_enters : (fs : List File) (o : Reached Step) (p : Step) → o ≡ Ok p → StepWithin fs o → Enters fs p.enter
 step_enters fs o p e w = subst (λ z. StepWithin fs z) e w
 
-walked_same : (levels : ℕ) (fs extra : List File) (f g : ℕ → SState → Reached SState) (end : Halt) (left : ℕ) (bs : SBranches) (s : SState) (ts : List Placed) → SameInner fs f g
+pub walked_same : (levels : ℕ) (fs extra : List File) (f g : ℕ → SState → Reached SState) (end : Halt) (left : ℕ) (bs : SBranches) (s : SState) (ts : List Placed) → SameInner fs f g
     → Same (walked levels fs f end left bs s ts) (walked levels (fs ++ extra) g end left bs s ts)
 unfolding walked
 walked_same levels fs extra f g end left bs s [] n = same (ended bs.stack s end)
@@ -225,7 +225,7 @@ moved_bytes : (levels : ℕ) (fs extra : List File) (f g : ℕ → SState → Re
 moved_bytes levels fs extra f g i s n h =
     subst (λ z. Same (walked_bytes levels fs f i (bytes_of i fs) s) (walked_bytes levels (fs ++ extra) g i z s)) (sym (same_bytes i fs extra h)) (bytes_same levels fs extra f g i (bytes_of i fs) s n)
 
-file_same : (levels : ℕ) (fs extra : List File) → SameInner fs (walked_file levels fs) (walked_file levels (fs ++ extra))
+pub file_same : (levels : ℕ) (fs extra : List File) → SameInner fs (walked_file levels fs) (walked_file levels (fs ++ extra))
 unfolding walked_file
 file_same zero fs extra i s h = moved_bytes 0 fs extra (λ j n. Ok n) (λ j n. Ok n) i s (λ j n l. same (Ok n)) h
 file_same (suc levels) fs extra i s h = moved_bytes (suc levels) fs extra (walked_file levels fs) (walked_file levels (fs ++ extra)) i s (file_same levels fs extra) h
@@ -237,7 +237,7 @@ sources_same (suc left) fs extra i s h =
     then_same (walked_file 15 fs i s) (walked_file 15 (fs ++ extra) i s) (walked_sources left fs (i + 1)) (walked_sources left (fs ++ extra) (i + 1)) (file_same 15 fs extra i s (omega arith))
     (λ n e. sources_same left fs extra (i + 1) n (omega arith))
 
-take_same : (n : ℕ) (fs extra : List File) → n ≤ length fs → take n (fs ++ extra) ≡ take n fs
+pub take_same : (n : ℕ) (fs extra : List File) → n ≤ length fs → take n (fs ++ extra) ≡ take n fs
 take_same n fs extra h = take-append-le n fs extra h
 
 walk_same : (fs extra : List File) (named : ℕ) (defines : List Text) → named ≤ length fs → Same (walk_all fs named defines) (walk_all (fs ++ extra) named defines)

@@ -1,5 +1,5 @@
 -- Turns of the walk over a file.
-use Rattle.std.proofs.Common.{◌≡◌, ℕ, zero, suc, ◌+◌, ◌-◌, ◌<◌, ◌≤◌, ◌==◌, false, Option, Some, None, Ok, List, [], ◌∷◌, length, map, drop, get_or, refl, ap, sym, ◌∙◌, subst, arith}
+use Rattle.std.proofs.Common.{◌≡◌, ℕ, zero, suc, ◌+◌, ◌-◌, ◌<◌, ◌≤◌, ◌==◌, false, Option, Some, None, Ok, Err, List, [], ◌∷◌, length, map, drop, get_or, refl, ap, sym, ◌∙◌, subst, arith}
 use Rattle.std.proofs.lemmas.List.{drop-drop}
 use Rattle.std.proofs.lemmas.Bool.Decides.{nat_tests}
 use Rattle.bits_core.specs.declared.names.File.{File}
@@ -98,6 +98,10 @@ ends_walk : (levels : ℕ) (files : List File) (inner : ℕ → SState → Reach
 unfolding walked
 ends_walk levels files inner end bs s = refl
 
+pub then_each : {A B : Type 0} (o : Reached A) (f g : A → Reached B) → ((a : A) → f a ≡ g a) → and_then o f ≡ and_then o g
+then_each (Ok a) f g k = k a
+then_each (Err e) f g k = refl
+
 -- a turn of the loop over the tokens of a file
 module _ (levels : ℕ) (files : List File) (inner : ℕ → SState → Reached SState) (end : Halt) (bs : SBranches) (s : SState) (xs : List Lined) (at : ℕ) (d0 t : Lined) (rest : List Lined) (whole : Reached SState)
     (less : at < length xs) (here : get_or xs at d0 ≡ t) (behind : rest ≡ drop (at + 1) xs) (inv : walked levels files inner end 0 bs s (map placed (drop at xs)) ≡ whole) where
@@ -122,6 +126,16 @@ module _ (levels : ℕ) (files : List File) (inner : ℕ → SState → Reached 
       ∙ (ap (λ z. and_then z (λ n. walked levels files inner end p.more p.branches n (map placed rest))) ok
       ∙ (skips levels files inner end p.more p.branches n (map placed rest) ∙ ap (walked levels files inner end 0 p.branches n) on))))
 
+  -- the step enters a file, and the walk goes on behind it
+  pub step_waits : (p : Step) (next : ℕ) → step levels files bs s (placed t) (map placed rest) ≡ Ok p → drop next xs ≡ drop (at + 1 + p.more) xs
+      → whole ≡ and_then (entered inner p.enter p.state) (λ n. walked levels files inner end 0 p.branches n (map placed (drop next xs)))
+  step_waits p next is place =
+      let on : drop p.more (map placed rest) ≡ map placed (drop next xs) =
+      drop_placed p.more rest ∙ ap (map placed) (ap (drop p.more) behind ∙ (drop-drop p.more (at + 1) xs ∙ sym place)) in
+      turned ∙ (ap (λ z. and_then z (λ p. and_then (entered inner p.enter p.state) (λ n. walked levels files inner end p.more p.branches n (map placed rest)))) is
+      ∙ then_each (entered inner p.enter p.state) (λ n. walked levels files inner end p.more p.branches n (map placed rest)) (λ n. walked levels files inner end 0 p.branches n (map placed (drop next xs)))
+      (λ n. skips levels files inner end p.more p.branches n (map placed rest) ∙ ap (walked levels files inner end 0 p.branches n) on))
+
 pub walk_over : (levels : ℕ) (files : List File) (inner : ℕ → SState → Reached SState) (end : Halt) (bs : SBranches) (s : SState) (xs : List Lined) (at : ℕ) (whole : Reached SState)
     → length xs ≤ at → walked levels files inner end 0 bs s (map placed (drop at xs)) ≡ whole → ended bs.stack s end ≡ whole
 walk_over levels files inner end bs s xs at whole h inv =
@@ -129,6 +143,10 @@ walk_over levels files inner end bs s xs at whole h inv =
 
 not_zero : (n : ℕ) → (suc n == 0) ≡ false
 not_zero n = grind (arith, nat_tests)
+
+pub reached : (levels : ℕ) (o : Option ℕ) (j : ℕ) → reachable levels o ≡ Some j → o ≡ Some j
+reached zero o j e = absurd (cc)
+reached (suc levels) o j e = let z = not_zero levels in let k : reachable (suc levels) o ≡ o = rw z refl in sym k ∙ e
 
 -- what is reached of a file that is entered
 pub enters_file : (levels : ℕ) (files : List File) (enter : Option ℕ) (j : ℕ) (s : SState) → reachable levels enter ≡ Some j

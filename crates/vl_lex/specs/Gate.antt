@@ -46,6 +46,11 @@ abbrev pub Gives : {X S : Type 0} → Result X Halt → S → Reached S → Type
 Gives (Ok x) new reached = reached ≡ Ok new
 Gives (Err e) new reached = Ends e reached
 
+-- no file is asked for
+abbrev pub IsStop : Halt → Type 0
+IsStop (h.Stop s) = Unit {0}
+IsStop (h.Need n) = ⊥
+
 abbrev pub fault_at : Code → ℕ → ℕ → Halt
 fault_at c file line = h.Stop (stop.Fault (record { code = c; place = place.Line file line }))
 

@@ -1,3 +1,4 @@
+pub mod Asked
 pub mod Bytes
 pub mod Expansion
 pub mod Forms
@@ -5,7 +6,10 @@ pub mod Gate
 pub mod Lexed
 pub mod Macros
 pub mod Numbers
+pub mod Paused
 pub mod Pieces
 pub mod Places
+pub mod Resumed
 pub mod Shelves
+pub mod Sources
 pub mod Walk

@@ -376,9 +376,9 @@ kept files named defines =
     if nat_lt most_files named then Err (h.Stop (stop.Limit code.Files))
     else walk_all files named defines
 
-abbrev pub Keeps : Result (List Token) Halt → Reached (List Seen) → Type 0
-Keeps (Ok tokens) reached = reached ≡ Ok (map view tokens)
-Keeps (Err e) reached = Ends e reached
+abbrev pub KeepsTokens : Result (List Token) Stop → Reached (List Seen) → Type 0
+KeepsTokens (Ok tokens) reached = reached ≡ Ok (map view tokens)
+KeepsTokens (Err e) reached = Ends (h.Stop e) reached
 
 -- What the walk answers.
 abbrev pub Walks : Result Walk Stop → Reached (List Seen) → Type 0

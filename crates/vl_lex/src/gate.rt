@@ -1,5 +1,6 @@
 ghost use Rattle.std.specs.Prelude.{◌≡◌, map, Ok};
 ghost use Rattle.vl_lex.specs.Gate as spec;
+ghost use Rattle.vl_lex.specs.declared.gate.Halt.TheVariants as halts;
 ghost use Rattle.vl_tree.specs.Words as words;
 ghost use Rattle.vl_lex.specs.Lexed.{view};
 
@@ -61,6 +62,17 @@ pub fn fault_at(code: Code, file: u32, line: u32) -> Halt
         code,
         place: Place::Line { file, line },
     }))
+}
+
+/// A reason that asks for no file.
+pub fn stop_of(halt: Halt) -> Stop
+    requires { spec.IsStop halt }
+    ensures { halt ≡ halts.Stop result }
+{
+    match halt {
+        Halt::Stop(stop) => stop,
+        Halt::Need(_) => unreachable!(),
+    }
 }
 
 fn is_number(kind: TokenKind) -> bool

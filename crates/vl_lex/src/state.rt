@@ -4,6 +4,7 @@ ghost use Rattle.std.specs.List.{list_any, prefix_len};
 ghost use Rattle.std.specs.Str as text;
 ghost use Rattle.vl_lex.specs.Lexed.{placed, view};
 ghost use Rattle.vl_lex.specs.Gate.{Gives, IsReason, halt_reason, fault_at};
+ghost use Rattle.vl_lex.specs.Sources.{files_of};
 ghost use Rattle.vl_lex.specs.Walk as spec;
 
 use crate::branches::{is_name_kind, name_after};
@@ -12,7 +13,8 @@ use crate::expansion::{expand, halt, marked};
 use crate::gate::{Gate, Halt, fault_at};
 use crate::lexer::Lined;
 use crate::macros::Macros;
-use bits_core::{FileList, Items, NoMemory};
+use crate::source::Source;
+use bits_core::{Items, NoMemory};
 use std::alloc::Global;
 use vl_tree::{Code, Stop, TokenKind, TokenList};
 
@@ -186,15 +188,15 @@ impl<'f> State<'f> {
     }
 
     #[tactic(auto, using(crate::proofs::Rows::any_now))]
-    fn is_listed(&self, name: &[u8]) -> bool
+    pub fn is_listed(&self, name: &[u8]) -> bool
         ensures { result ≡ list_any (λ n. bytes_eq n name.now) (spec.state_view self.now).listed }
     {
         is_among(self.listed.as_slice(), name)
     }
 
     /// The file of a name is entered, or asked for.
-    fn enter(&mut self, files: &FileList, name: &'f [u8]) -> Result<Turned, Halt>
-        ensures { spec.Acts result (spec.state_view self.new) (spec.enter_at (spec.find_file 0 name.entry.now files.now) (spec.state_view self.old) name.entry.now) }
+    fn enter(&mut self, files: &[Source<'_>], name: &'f [u8]) -> Result<Turned, Halt>
+        ensures { spec.Acts result (spec.state_view self.new) (spec.enter_at (spec.find_file 0 name.entry.now (files_of files.now)) (spec.state_view self.old) name.entry.now) }
     {
         match find_file(files, name) {
             None => match name.to_vec(self.gate.alloc) {
@@ -209,8 +211,8 @@ impl<'f> State<'f> {
     }
 
     #[tactic(auto, unfolding(crate::specs::Walk::list_turn))]
-    fn list(&mut self, files: &FileList, name: &'f [u8]) -> Result<Turned, Halt>
-        ensures { spec.Acts result (spec.state_view self.new) (spec.list_turn files.now (spec.state_view self.old) name.entry.now) }
+    fn list(&mut self, files: &[Source<'_>], name: &'f [u8]) -> Result<Turned, Halt>
+        ensures { spec.Acts result (spec.state_view self.new) (spec.list_turn (files_of files.now) (spec.state_view self.old) name.entry.now) }
     {
         if self.is_listed(name) {
             return self.enter(files, name);
@@ -226,11 +228,11 @@ impl<'f> State<'f> {
     pub fn include(
         &mut self,
         levels: usize,
-        files: &FileList,
+        files: &[Source<'_>],
         token: &Lined<'f>,
         rest: &[Lined<'f>],
     ) -> Result<Turned, Halt>
-        ensures { spec.Acts result (spec.state_view self.new) (spec.include_turn levels files.now (spec.state_view self.old) (placed token.now) (map placed rest.now)) }
+        ensures { spec.Acts result (spec.state_view self.new) (spec.include_turn levels (files_of files.now) (spec.state_view self.old) (placed token.now) (map placed rest.now)) }
     {
         match rest {
             [] => Err(self.refuse(Code::Directive, token)),
@@ -270,18 +272,18 @@ fn is_among(names: &[&[u8]], name: &[u8]) -> bool
 
 /// The place of the first file of a name. Linear in the files.
 #[tactic(auto, using(crate::proofs::Rows::finds))]
-fn find_file(files: &FileList, name: &[u8]) -> Option<usize>
-    ensures { result ≡ spec.find_file 0 name.now files.now }
+pub fn find_file(files: &[Source<'_>], name: &[u8]) -> Option<usize>
+    ensures { result ≡ spec.find_file 0 name.now (files_of files.now) }
 {
-    for (at, file) in files.as_slice().iter().enumerate() {
-        if is_text(file.name.as_slice(), name) {
+    for (at, file) in files.iter().enumerate() {
+        if is_text(file.name, name) {
             return Some(at);
         }
     }
     None
 }
 
-fn is_quoted(kind: TokenKind) -> bool
+pub fn is_quoted(kind: TokenKind) -> bool
     ensures { result ≡ spec.is_quoted kind }
 {
     match kind {
@@ -291,7 +293,7 @@ fn is_quoted(kind: TokenKind) -> bool
 }
 
 /// The bytes between the quotes.
-fn inner_text(text: &[u8]) -> &[u8]
+pub fn inner_text(text: &[u8]) -> &[u8]
     ensures { result.now ≡ spec.inner_text text.now }
 {
     front(rest_from(text, 1), text.len().saturating_sub(2))
@@ -307,7 +309,7 @@ fn is_utf8(bytes: &[u8]) -> bool
     }
 }
 
-fn is_file_name(name: &[u8]) -> bool
+pub fn is_file_name(name: &[u8]) -> bool
     ensures { result ≡ spec.is_file_name name.now }
 {
     !(name.len() == 0) && is_utf8(name)

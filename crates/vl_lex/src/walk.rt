@@ -3,28 +3,29 @@ ghost use Rattle.vl_lex.specs.declared.lexer.Lined as lexer;
 ghost use Rattle.vl_lex.specs.Lexed.{placed, file_tokens};
 ghost use Rattle.vl_lex.specs.Macros.{look};
 ghost use Rattle.vl_lex.specs.Gate.{Gives, gate_view};
+ghost use Rattle.vl_lex.specs.Sources.{files_of};
 ghost use Rattle.vl_lex.specs.Walk as spec;
 
 use crate::branches::{Branches, branch_turn};
 use crate::directives::{Directive, directive_of, is_directive};
 use crate::expansion::{directive_name, halt};
-use crate::files::Files;
 use crate::gate::{Gate, Halt, fault_at};
 use crate::lexer::{Lined, lex_rows, newlines};
+use crate::source::Source;
 use crate::state::{State, Turned, row_len, took};
-use bits_core::{FileList, Items};
+use bits_core::Items;
 use vl_tree::{Code, Stop};
 
 #[tactic(auto, unfolding(crate::specs::Walk::act))]
 fn act<'f>(
     levels: usize,
-    files: &FileList,
+    files: &[Source<'_>],
     directive: Directive,
     state: &mut State<'f>,
     token: &Lined<'f>,
     rest: &[Lined<'f>],
 ) -> Result<Turned, Halt>
-    ensures { spec.Acts result (spec.state_view state.new) (spec.act levels files.now directive (spec.state_view state.old) (placed token.now) (map placed rest.now)) }
+    ensures { spec.Acts result (spec.state_view state.new) (spec.act levels (files_of files.now) directive (spec.state_view state.old) (placed token.now) (map placed rest.now)) }
 {
     match directive {
         Directive::Define => state.define(token, rest),
@@ -63,14 +64,14 @@ fn is_branch_word(directive: Directive) -> bool
 #[tactic(auto, unfolding(crate::specs::Walk::directive_step))]
 fn directive_step<'f>(
     levels: usize,
-    files: &FileList,
+    files: &[Source<'_>],
     directive: Directive,
     branches: &mut Branches,
     state: &mut State<'f>,
     token: &Lined<'f>,
     rest: &[Lined<'f>],
 ) -> Result<Turned, Halt>
-    ensures { spec.Steps result (spec.branches_view branches.new) (spec.state_view state.new) (spec.directive_step levels files.now directive (spec.branches_view branches.old) (spec.state_view state.old) (placed token.now) (map placed rest.now)) }
+    ensures { spec.Steps result (spec.branches_view branches.new) (spec.state_view state.new) (spec.directive_step levels (files_of files.now) directive (spec.branches_view branches.old) (spec.state_view state.old) (placed token.now) (map placed rest.now)) }
 {
     if is_branch_word(directive) {
         return match branch_turn(branches, &state.macros, directive, token.row, rest) {
@@ -90,13 +91,13 @@ fn directive_step<'f>(
 #[tactic(auto, unfolding(crate::specs::Walk::step))]
 pub fn step<'f>(
     levels: usize,
-    files: &FileList,
+    files: &[Source<'_>],
     branches: &mut Branches,
     state: &mut State<'f>,
     token: &Lined<'f>,
     rest: &[Lined<'f>],
 ) -> Result<Turned, Halt>
-    ensures { spec.Steps result (spec.branches_view branches.new) (spec.state_view state.new) (spec.step levels files.now (spec.branches_view branches.old) (spec.state_view state.old) (placed token.now) (map placed rest.now)) }
+    ensures { spec.Steps result (spec.branches_view branches.new) (spec.state_view state.new) (spec.step levels (files_of files.now) (spec.branches_view branches.old) (spec.state_view state.old) (placed token.now) (map placed rest.now)) }
 {
     if is_directive(token.token.kind) {
         return directive_step(
@@ -120,7 +121,11 @@ pub fn step<'f>(
 
 /// The tokens of a file; its first fault ends the walk.
 #[tactic(auto, using(crate::proofs::Walks::lexes))]
-fn lex_file<'f>(gate: &mut Gate<'f>, file: u32, bytes: &'f [u8]) -> Result<Items<Lined<'f>>, Halt>
+pub fn lex_file<'f>(
+    gate: &mut Gate<'f>,
+    file: u32,
+    bytes: &'f [u8],
+) -> Result<Items<Lined<'f>>, Halt>
     requires { length bytes.now ≤ 2 ^ 24 }
     ensures ok { IfOk result (λ lined. (map placed lined ≡ (file_tokens file bytes.now).tokens) × ((file_tokens file bytes.now).flaw ≡ None)) }
     ensures still { OnOk result (gate_view gate.new ≡ gate_view gate.old) }
@@ -135,7 +140,7 @@ fn lex_file<'f>(gate: &mut Gate<'f>, file: u32, bytes: &'f [u8]) -> Result<Items
 }
 
 /// The line of the end of a file.
-fn last_line(bytes: &[u8]) -> u32
+pub fn last_line(bytes: &[u8]) -> u32
     requires { length bytes.now ≤ 2 ^ 24 }
     ensures { result ≡ spec.last_line bytes.now }
 {
@@ -158,7 +163,7 @@ fn ends_line(bytes: &[u8]) -> bool
 }
 
 /// The end of a file, where each branch is to be closed.
-fn end_of_file<'f>(branches: &Branches, state: &mut State<'f>, end: Halt) -> Result<(), Halt>
+pub fn end_of_file<'f>(branches: &Branches, state: &mut State<'f>, end: Halt) -> Result<(), Halt>
     ensures { Gives result (spec.state_view state.new) (spec.ended (spec.branches_view branches.now).stack (spec.state_view state.old) end) }
 {
     match branches.stack.as_slice() {
@@ -169,7 +174,7 @@ fn end_of_file<'f>(branches: &Branches, state: &mut State<'f>, end: Halt) -> Res
 
 /// The place behind a token and those that it took.
 #[tactic(auto, using(crate::proofs::Walks::past_end))]
-fn past(at: usize, more: usize, len: usize) -> usize
+pub fn past(at: usize, more: usize, len: usize) -> usize
     requires { at < len }
     ensures place { (xs : List lexer.Lined) → length xs ≡ len → drop result xs ≡ drop (at + 1 + more) xs }
     ensures later { at < result }
@@ -179,51 +184,14 @@ fn past(at: usize, more: usize, len: usize) -> usize
 }
 
 /// The file that is entered, where a level is left for it.
-fn reachable(levels: usize, enter: Option<usize>) -> Option<usize>
+pub fn reachable(levels: usize, enter: Option<usize>) -> Option<usize>
     ensures { result ≡ spec.reachable levels enter }
 {
     if levels == 0 { None } else { enter }
 }
 
-fn rest_items<'t, 'f>(items: &'t [Lined<'f>], at: usize) -> &'t [Lined<'f>]
+pub fn rest_items<'t, 'f>(items: &'t [Lined<'f>], at: usize) -> &'t [Lined<'f>]
     ensures { result.now ≡ drop at items.now }
 {
     if at <= items.len() { &items[at..] } else { &[] }
-}
-
-/// A file and all that it includes, where so many levels are left. Each walk of a file is linear in its tokens and in the tokens of the macros that it uses.
-pub fn walk_file<'f>(
-    files: &'f Files,
-    levels: usize,
-    index: usize,
-    state: &mut State<'f>,
-) -> Result<(), Halt>
-    ensures { Gives result (spec.state_view state.new) (spec.walked_file levels files.now.list index (spec.state_view state.old)) }
-{
-    if index >= files.list.len() {
-        return Ok(());
-    }
-    let bytes = files.list.get(index).bytes.as_slice();
-    let lined = match lex_file(&mut state.gate, index as u32, bytes) {
-        Ok(lined) => lined,
-        Err(halt) => return Err(halt),
-    };
-    let end = fault_at(Code::Directive, index as u32, last_line(bytes));
-    let mut branches = Branches::new(state.gate.alloc);
-    let tokens = lined.as_slice();
-    let mut at = 0;
-    while at < tokens.len() {
-        let rest = rest_items(tokens, at + 1);
-        let turned = match step(levels, &files.list, &mut branches, state, &tokens[at], rest) {
-            Ok(turned) => turned,
-            Err(halt) => return Err(halt),
-        };
-        at = past(at, turned.more, tokens.len());
-        if let Some(entered) = reachable(levels, turned.enter) {
-            if let Err(halt) = walk_file(files, levels - 1, entered, state) {
-                return Err(halt);
-            }
-        }
-    }
-    end_of_file(&branches, state, end)
 }
