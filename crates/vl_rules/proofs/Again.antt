@@ -10,7 +10,7 @@ use Rattle.vl_grammar.specs.Roles.{binds}
 use Rattle.vl_grammar.specs.Read.{Tokens, Parser, and_then, expr, select}
 use Rattle.vl_grammar.specs.Spells.{Whole, Selected, Ends}
 use Rattle.vl_grammar.proofs.Again.{whole_again, selected_again}
-use Rattle.vl_rules.specs.All.{all}
+use Rattle.vl_tree.specs.AllWords.{all}
 use Rattle.vl_rules.specs.Form.{Rule, Tree, Form, empty, unless, fixed, value, select_rest, seq, made, either, many, one_and, such, rule, Spells, Row, Begun, rule_joins, joins, skips, starts, goes_on, leads, decided, no_free, bound, read_value, read_select, row, reads}
 use Rattle.vl_rules.proofs.Tools.{got, both, expect_again, or_left, or_right, and_both, and_first, and_second, nor_first, nor_second, nand_first, not_true, never, at_word}
 use Rattle.vl_rules.proofs.Opens.{Opens, Begins, opens, row_opens}

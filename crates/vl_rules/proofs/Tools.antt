@@ -7,7 +7,8 @@ use Rattle.vl_tree.specs.declared.words.Word.{Word}
 use Rattle.vl_tree.specs.declared.words.Word.TheVariants as word
 use Rattle.vl_tree.specs.Words.{word_of, same_word}
 use Rattle.vl_grammar.specs.Read.{Tokens, Outcome, Parser, and_then, expect}
-use Rattle.vl_rules.specs.All.{words, all_of, all}
+use Rattle.vl_tree.specs.AllWords.{all}
+use Rattle.vl_tree.proofs.WordLaws.{at_word as listed}
 
 abbrev pub got : {A : Type 0} → A → Tokens → Outcome A
 got x us = Some (x, us)
@@ -99,25 +100,5 @@ never a h k = cc
 
 -- All words
 
-same_is : (w v : Word) (f : Word → Bool) (b : Bool) → same_word w v ≡ b → f v ≡ true → (b ≡ false → f w ≡ true) → f w ≡ true
-same_is w v f true is h go = ap f (same_ok w v is) ∙ h
-same_is w v f false is h go = go refl
-
-abbrev among : Word → List Word → Bool
-among w [] = false
-among w (v ∷ vs) = if same_word w v then true else among w vs
-
-among_later : (w v : Word) (vs : List Word) → same_word w v ≡ false → among w (v ∷ vs) ≡ true → among w vs ≡ true
-among_later w v vs is h = sym (rw is) ∙ h
-
-one_of : (f : Word → Bool) (w : Word) (vs : List Word) → all_of f vs ≡ true → among w vs ≡ true → f w ≡ true
-one_of f w [] h k = cc
-one_of f w (v ∷ vs) h k = same_is w v f (same_word w v) refl (and_first (f v) (all_of f vs) h) (λ is. one_of f w vs (and_second (f v) (all_of f vs) h) (among_later w v vs is k))
-
-among_all : (w : Word) → among w words ≡ true
-unfolding same_word
-among_all word.EndOfTokens = refl
-among_all _ = refl
-
 pub at_word : (f : Word → Bool) → all f ≡ true → (w : Word) → f w ≡ true
-at_word f h w = one_of f w words h (among_all w)
+at_word f h w = listed f w h

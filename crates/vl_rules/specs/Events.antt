@@ -1,5 +1,6 @@
 -- What is written, and what a process waits for.
 use Rattle.std.specs.Prelude.{List, [], ◌∷◌}
+use Rattle.vl_tree.specs.declared.tokens.Token.{Token}
 use Rattle.vl_tree.specs.declared.words.Word.TheVariants as word
 use Rattle.vl_tree.specs.declared.expressions.Select.{Select}
 use Rattle.vl_tree.specs.declared.statements.Lval.{Lval}
@@ -24,8 +25,17 @@ edge_word = means word.Posedge side.Posedge ∣ means word.Negedge side.Negedge
 unfoldable pub edge : Form Edge
 edge = made (λ x. record { edge = x.0.0; name = x.0.1; selects = x.1 }) (maybe edge_word ⊗ name ⊗ selects)
 
+unfoldable pub joint : Form Token
+joint = fixed word.Or ∣ fixed word.Comma
+
+unfoldable pub next_edge : Form Edge
+next_edge = joint ▸ edge
+
 unfoldable pub edges : Form (List Edge)
-edges = one_and edge ((fixed word.Or ∣ fixed word.Comma) ▸ edge)
+edges = one_and edge next_edge
+
+unfoldable pub listed_events : Form Event
+listed_events = means word.Star event.AnyInBrackets ∣ made event.Edges edges
 
 unfoldable pub events : Form Event
-events = means word.Star event.Any ∣ in_parens (means word.Star event.AnyInBrackets ∣ made event.Edges edges)
+events = means word.Star event.Any ∣ in_parens listed_events

@@ -12,7 +12,7 @@ use Rattle.vl_tree.specs.Words.{word_of, next, same_word}
 use Rattle.vl_grammar.specs.Roles.{binds, is_unary}
 use Rattle.vl_grammar.specs.Read.{Tokens, Parser, and_then, expect, expr, select}
 use Rattle.vl_grammar.specs.Spells.{Whole, Selected}
-use Rattle.vl_rules.specs.All.{all}
+use Rattle.vl_tree.specs.AllWords.{all}
 
 -- the rules that lead back to themselves
 pub data Rule : Type 0 where

@@ -1,5 +1,6 @@
 -- Instances of modules, and gates.
-use Rattle.std.specs.Prelude.{Bool, true, ◌&&◌, ◌==◌, List, [], ◌∷◌, length, Option, Some, None}
+use Rattle.std.specs.Prelude.{Bool, true, false, if◌then◌else◌, ◌==◌, List, [], ◌∷◌, length, Option, Some, None}
+use Rattle.std.specs.List.{list_all}
 use Rattle.vl_tree.specs.declared.words.Word.TheVariants as word
 use Rattle.vl_tree.specs.declared.modules.NamedBind.{NamedBind}
 use Rattle.vl_tree.specs.declared.modules.Binds.{Binds}
@@ -20,16 +21,22 @@ named_bind = made (λ x. record { name = x.0; value = x.1 }) (fixed word.Dot ▸
 unfoldable pub values : Form Binds
 values = made binds.Named (list named_bind) ∣ made binds.Ordered (list (maybe value))
 
+abbrev pub is_nothing : Binds → Bool
+is_nothing (binds.Ordered (None ∷ [])) = true
+is_nothing _ = false
+
 -- values are absent where nothing stands
 abbrev pub present : Binds → Option Binds
-present (binds.Ordered (None ∷ [])) = None
-present b = Some b
+present b = if is_nothing b then None else Some b
 
 unfoldable pub instance : Form Instance
 instance = made (λ x. record { name = x.0; binds = present x.1 }) (name ⊗ in_parens values)
 
+unfoldable pub overrides : Form (Option Binds)
+overrides = maybe (fixed word.Hash ▸ in_parens values)
+
 unfoldable pub instances_item : Form InstanceItem
-instances_item = made (λ x. record { «module» = x.0.0; overrides = x.0.1; instances = x.1 }) (ended (name ⊗ maybe (fixed word.Hash ▸ in_parens values) ⊗ list instance))
+instances_item = made (λ x. record { «module» = x.0.0; overrides = x.0.1; instances = x.1 }) (ended (name ⊗ overrides ⊗ list instance))
 
 unfoldable pub gate_word : Form Gate
 gate_word =
@@ -39,18 +46,20 @@ gate_word =
 unfoldable pub gate_instance : Form GateInstance
 gate_instance = made (λ x. record { name = x.0; output = x.1.0; inputs = x.1.1 }) (maybe name ⊗ in_parens (left_side ◂ fixed word.Comma ⊗ list value))
 
--- `buf` and `not` have one input
-abbrev pub one_each : List GateInstance → Bool
-one_each [] = true
-one_each (g ∷ gs) = length g.inputs == 1 && one_each gs
+abbrev pub has_one_input : GateInstance → Bool
+has_one_input g = length g.inputs == 1
 
+-- `buf` and `not` have one input
 abbrev pub right_inputs_of : Gate → List GateInstance → Bool
-right_inputs_of gate.Buf gs = one_each gs
-right_inputs_of gate.Not gs = one_each gs
+right_inputs_of gate.Buf gs = list_all has_one_input gs
+right_inputs_of gate.Not gs = list_all has_one_input gs
 right_inputs_of _ gs = true
 
 abbrev pub right_inputs : GateItem → Bool
 right_inputs g = right_inputs_of g.gate g.gates
 
+unfoldable pub any_gates : Form GateItem
+any_gates = made (λ x. record { gate = x.0; gates = x.1 }) (ended (gate_word ⊗ list gate_instance))
+
 unfoldable pub gates_item : Form GateItem
-gates_item = such right_inputs (made (λ x. record { gate = x.0; gates = x.1 }) (ended (gate_word ⊗ list gate_instance)))
+gates_item = such right_inputs any_gates

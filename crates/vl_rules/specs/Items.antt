@@ -1,5 +1,9 @@
 -- Items of a module.
+use Rattle.std.specs.Prelude.{List}
+use Rattle.vl_tree.specs.declared.tokens.Token.{Token}
 use Rattle.vl_tree.specs.declared.words.Word.TheVariants as word
+use Rattle.vl_tree.specs.declared.statements.Var.{Var}
+use Rattle.vl_tree.specs.declared.statements.Stmt.{Stmt}
 use Rattle.vl_tree.specs.declared.modules.Assignment.{Assignment}
 use Rattle.vl_tree.specs.declared.modules.Process.{Process}
 use Rattle.vl_tree.specs.declared.modules.Item.{Item}
@@ -10,7 +14,7 @@ use Rattle.vl_rules.specs.Declarations.{var, ports_item, nets_item, constants_it
 use Rattle.vl_rules.specs.Events.{left_side, events}
 use Rattle.vl_rules.specs.Functions.{function}
 use Rattle.vl_rules.specs.Instances.{instances_item, gates_item}
-use Rattle.vl_rules.specs.Generate.{item_loop, item_choice, item_cases}
+use Rattle.vl_rules.specs.Generate.{generated}
 
 unfoldable pub assignment : Form Assignment
 assignment = made (λ x. record { left = x.0; right = x.1 }) (left_side ⊗ after_equals)
@@ -18,18 +22,38 @@ assignment = made (λ x. record { left = x.0; right = x.1 }) (left_side ⊗ afte
 unfoldable pub process : Form Process
 process = made (λ x. record { event = x.0; body = x.1 }) (fixed word.Always ▸ fixed word.At ▸ events ⊗ rule stmt)
 
-unfoldable pub item_form : Form Item
-item_form =
+unfoldable pub integers_item : Form (List Var)
+integers_item = fixed word.Integer ▸ ended (list var)
+
+unfoldable pub loop_names_item : Form (List Token)
+loop_names_item = fixed word.GenVar ▸ ended (list name)
+
+unfoldable pub assigns_item : Form (List Assignment)
+assigns_item = fixed word.Assign ▸ ended (list assignment)
+
+unfoldable pub start_item : Form Stmt
+start_item = fixed word.Initial ▸ rule stmt
+
+unfoldable pub region : Form (List Item)
+region = fixed word.Generate ▸ many (rule item) ◂ fixed word.EndGenerate
+
+unfoldable pub declared_item : Form Item
+declared_item =
     made i.Port ports_item
     ∣ made i.Net nets_item
-    ∣ made i.Integer (fixed word.Integer ▸ ended (list var))
-    ∣ made i.GenVar (fixed word.GenVar ▸ ended (list name))
+    ∣ made i.Integer integers_item
+    ∣ made i.GenVar loop_names_item
     ∣ made i.Parameter constants_item
-    ∣ made i.Assign (fixed word.Assign ▸ ended (list assignment))
+
+unfoldable pub written_item : Form Item
+written_item =
+    made i.Assign assigns_item
     ∣ made i.Always process
-    ∣ made i.Initial (fixed word.Initial ▸ rule stmt)
+    ∣ made i.Initial start_item
     ∣ made i.Function function
-    ∣ made i.Instances instances_item
-    ∣ made i.Gates gates_item
-    ∣ made i.Generate (fixed word.Generate ▸ many (rule item) ◂ fixed word.EndGenerate)
-    ∣ made i.Gen (item_loop ∣ item_choice ∣ item_cases)
+
+unfoldable pub placed_item : Form Item
+placed_item = made i.Instances instances_item ∣ made i.Gates gates_item
+
+unfoldable pub item_form : Form Item
+item_form = declared_item ∣ written_item ∣ placed_item ∣ made i.Generate region ∣ made i.Gen generated

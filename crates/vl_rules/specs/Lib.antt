@@ -1,4 +1,3 @@
-pub mod All
 pub mod Declarations
 pub mod Events
 pub mod Files

@@ -8,8 +8,8 @@ use Rattle.vl_tree.specs.declared.modules.Item.{Item}
 use Rattle.vl_tree.specs.declared.modules.Module.{Module}
 use Rattle.vl_grammar.specs.Read.{Tokens, Parser, refuse}
 use Rattle.vl_rules.specs.Form.{Form, fixed, made, many, rule, Rule, lval, stmt, item, Tree, Spells, reads}
-use Rattle.vl_rules.specs.Shapes.{◌▸◌, ◌◂◌, ◌⊗◌, maybe, in_parens, name}
-use Rattle.vl_rules.specs.Ports.{parameters, port_list}
+use Rattle.vl_rules.specs.Shapes.{◌▸◌, ◌◂◌, ◌⊗◌, name}
+use Rattle.vl_rules.specs.Ports.{parameter_part, port_part}
 use Rattle.vl_rules.specs.Events.{left_side}
 use Rattle.vl_rules.specs.Statements.{statement}
 use Rattle.vl_rules.specs.Items.{item_form}
@@ -17,8 +17,7 @@ use Rattle.vl_rules.specs.Items.{item_form}
 -- a module up to its `endmodule`
 unfoldable pub module_text : Form (((Token × Option (List Pdecl)) × Option (Option Ports)) × List Item)
 module_text =
-    fixed word.Module ▸ name ⊗ maybe (fixed word.Hash ▸ in_parens parameters) ⊗ maybe (in_parens (maybe port_list)) ◂ fixed word.Semicolon
-    ⊗ many (rule item)
+    fixed word.Module ▸ name ⊗ parameter_part ⊗ port_part ◂ fixed word.Semicolon ⊗ many (rule item)
 
 unfoldable pub module_form : Form Module
 module_form =

@@ -1,5 +1,5 @@
 -- Statements.
-use Rattle.std.specs.Prelude.{ℕ, suc, Bool, true, false, List, [], ◌∷◌, Option, Some, None}
+use Rattle.std.specs.Prelude.{Bool, true, false, nat_le, List, count_by, Option, Some, None}
 use Rattle.vl_tree.specs.declared.tokens.Token.{Token}
 use Rattle.vl_tree.specs.declared.words.Word.{Word}
 use Rattle.vl_tree.specs.declared.words.Word.TheVariants as word
@@ -43,23 +43,30 @@ arm_value kind.CaseZ = made e.Number (fixed word.FreeNumber) ∣ value
 unfoldable pub default_word : Form (Option Token)
 default_word = fixed word.Default ▸ maybe (fixed word.Colon)
 
+unfoldable pub arm_values : CaseWord → Form (List Expr)
+arm_values k = list (arm_value k)
+
 unfoldable pub arm : CaseWord → Form Citem
-arm k = made a.Default (default_word ▸ rule stmt) ∣ made (λ x. a.Match x.0 x.1) (list (arm_value k) ◂ fixed word.Colon ⊗ rule stmt)
+arm k = made a.Default (default_word ▸ rule stmt) ∣ made (λ x. a.Match x.0 x.1) (arm_values k ◂ fixed word.Colon ⊗ rule stmt)
 
-abbrev pub default_arms : List Citem → ℕ
-default_arms [] = 0
-default_arms (a.Default b ∷ xs) = suc (default_arms xs)
-default_arms (_ ∷ xs) = default_arms xs
+abbrev pub is_default : Citem → Bool
+is_default (a.Default b) = true
+is_default _ = false
 
-abbrev pub at_most_one : ℕ → Bool
-at_most_one (suc (suc n)) = false
-at_most_one _ = true
+abbrev pub at_most_one : {A : Type 0} → (A → Bool) → List A → Bool
+at_most_one f xs = nat_le (count_by f xs) 1
+
+unfoldable pub arm_row : CaseWord → Form (List Citem)
+arm_row k = one_and (arm k) (arm k)
+
+unfoldable pub arms : CaseWord → Form (List Citem)
+arms k = such (at_most_one is_default) (arm_row k)
 
 unfoldable pub cases : Word → CaseWord → Form Stmt
-cases w k = made (λ x. s.Case k x.0 x.1) (fixed w ▸ in_parens value ⊗ such (λ xs. at_most_one (default_arms xs)) (one_and (arm k) (arm k)) ◂ fixed word.EndCase)
+cases w k = made (λ x. s.Case k x.0 x.1) (fixed w ▸ in_parens value ⊗ arms k ◂ fixed word.EndCase)
 
-unfoldable pub loop : Form Stmt
-loop = made (λ x. s.For x.0.start_name x.0.start x.0.test x.0.step_name x.0.step x.1) (fixed word.For ▸ loop_head ⊗ rule stmt)
+unfoldable pub turns : Form Stmt
+turns = made (λ x. s.For x.0.start_name x.0.start x.0.test x.0.step_name x.0.step x.1) (fixed word.For ▸ loop_head ⊗ rule stmt)
 
 unfoldable pub assign_word : Form AssignWord
 assign_word = means word.EqualSign sign.Blocking ∣ means word.LessEqual sign.Nonblocking
@@ -68,4 +75,4 @@ unfoldable pub write : Form Stmt
 write = made (λ x. s.Assign x.0.0 x.0.1 x.1) (ended (left_side ⊗ assign_word ⊗ value))
 
 unfoldable pub statement : Form Stmt
-statement = means word.Semicolon s.Empty ∣ sequence ∣ choice ∣ cases word.Case kind.Case ∣ cases word.CaseZ kind.CaseZ ∣ loop ∣ write
+statement = means word.Semicolon s.Empty ∣ sequence ∣ choice ∣ cases word.Case kind.Case ∣ cases word.CaseZ kind.CaseZ ∣ turns ∣ write
