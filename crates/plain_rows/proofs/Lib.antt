@@ -4,3 +4,4 @@ pub mod LeafLaws
 pub mod RowLaws
 pub mod SoundLaws
 pub mod AssignLaws
+pub mod OneVerdict

@@ -1,12 +1,15 @@
--- The ports with what their assigns give, as the source says it.
-use Rattle.std.specs.Prelude.{◌≡◌, ℕ, List, Some, map}
-use Rattle.design_core.specs.Cells.{In}
+-- Laws: the ports with what their assigns give, as the source says it, and the right verdict on a row.
+use Rattle.std.specs.Prelude.{◌≡◌, ℕ, Bool, List, Option, Some, map}
+use Rattle.design_core.specs.declared.place.BitRef.{BitRef}
+use Rattle.design_core.specs.Cells.{Bitmap, Cell, In}
+use Rattle.design_core.specs.Rows.{Row}
 use Rattle.plain_form.specs.Modules.{Text, Port as ModulePort, Right, wire, fixed, Assign, Module}
 use Rattle.plain_form.specs.Wires.{Wires, place, wires_of}
 use Rattle.plain_form.specs.declared.wires.Driver.{Driver}
 use Rattle.plain_form.specs.declared.wires.Driver.TheVariants.{Port, Fixed}
 use Rattle.plain_form.specs.declared.wires.Slot.{Slot}
 use Rattle.plain_rows.specs.Plain.{driver_at}
+use Rattle.plain_rows.specs.Verdicts.{IsRight, Verdict}
 
 -- a right side, by the places of the ports
 abbrev pub Gives : List Text → Right → Driver → Type 0
@@ -29,3 +32,8 @@ pub record ReadsAsAssigns (m : Module) (w : Wires) : Type 0 where
 
 abbrev pub DriversAreAssigns : Type 0
 DriversAreAssigns = (top : Text) (m : Module) (w : Wires) → wires_of top m ≡ Some w → ReadsAsAssigns m w
+
+-- a row has one right verdict: two verdicts that are right for it are the same, with their launch and their inputs
+abbrev pub VerdictsAreOne : Type 0
+VerdictsAreOne = (E : List (Cell BitRef)) (bits : List BitRef) (window run : ℕ → BitRef → Option Bool) (power_up : Bitmap BitRef) (row : Row BitRef) (first depth : ℕ) (v w : Verdict)
+    → IsRight E bits window run power_up row first depth v → IsRight E bits window run power_up row first depth w → v ≡ w

@@ -5,4 +5,4 @@ mod decide;
 mod laws;
 
 pub use decide::{Verdict, decide_row};
-pub use laws::drivers_are_assigns;
+pub use laws::{drivers_are_assigns, verdicts_are_one};
