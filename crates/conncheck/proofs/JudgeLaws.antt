@@ -7,10 +7,11 @@ use Rattle.plain_form.specs.declared.wires.Slot.{Slot}
 use Rattle.plain_rows.specs.Plain.{IsRightHere}
 use Rattle.plain_rows.proofs.RowLaws.{verdict_right}
 use Rattle.plain_rows.proofs.SoundLaws.{AreIn, rows_in, source_even, source_sound}
-use Rattle.conncheck.specs.Command.{Text, Check}
 use Rattle.conncheck.specs.Judge.{judge}
-use Rattle.conncheck.specs.Outcome.{AreJudged, OfSource, OfTable, OfWords, Outcome, first_of, not_yet, report}
 use Rattle.conncheck.specs.Texts.{Judged}
+use Rattle.conncheck.specs.Reply.{Reply, not_yet, report}
+use Rattle.conncheck.specs.Words.{Text}
+use Rattle.conncheck.specs.commands.Check.{AreJudged, OfSource, OfTable, OfWords, Values, first_of}
 
 rows_same : (slots : List Slot) (rows : List Row) → map (λ (j : Judged). j.row) (map (judge slots) rows) ≡ rows
 rows_same slots [] = refl
@@ -33,7 +34,7 @@ are_judged w top source table rows s t = record {
       subst Q (sym k.2) (verdict_right w.slots k.0 (source_sound top source w s) inside.0 inside.1);
 }
 
-module _ (c : Check) (table : Text) (source : List Text) where
+module _ (c : Values) (table : Text) (source : List Text) where
   pub not_source : source_of c.top source ≡ None → OfWords c table source (not_yet (first_of c.files))
   not_source e = let P : Option Wires → Type 0 = λ o. OfSource c table o (not_yet (first_of c.files)) in subst P (sym e) refl
 
@@ -51,14 +52,14 @@ module _ (c : Check) (table : Text) (source : List Text) where
       let Q : Option (List Row) → Type 0 = λ r. OfTable c w r o in
       subst P (sym e) (subst Q (sym t) (record { judged = map (judge w.slots) rows; are_judged = are_judged w c.top source table rows e t; is_report = refl }))
 
-  by_table : (w : Wires) (o : Option (List Row)) → source_of c.top source ≡ Some w → rows_of w.names c.top table ≡ o → (x : Outcome) × OfWords c table source x
+  by_table : (w : Wires) (o : Option (List Row)) → source_of c.top source ≡ Some w → rows_of w.names c.top table ≡ o → (x : Reply) × OfWords c table source x
   by_table w None e t = (not_yet c.table, not_table w e t)
   by_table w (Some rows) e t = (report c.top w.names (map (judge w.slots) rows), of_report w rows e t)
 
-  by_source : (o : Option Wires) → source_of c.top source ≡ o → (x : Outcome) × OfWords c table source x
+  by_source : (o : Option Wires) → source_of c.top source ≡ o → (x : Reply) × OfWords c table source x
   by_source None e = (not_yet (first_of c.files), not_source e)
   by_source (Some w) e = by_table w (rows_of w.names c.top table) e refl
 
-  -- there is always an outcome
-  pub some_outcome : (x : Outcome) × OfWords c table source x
-  some_outcome = by_source (source_of c.top source) refl
+  -- there is always an reply
+  pub some_reply : (x : Reply) × OfWords c table source x
+  some_reply = by_source (source_of c.top source) refl

@@ -7,3 +7,4 @@ pub mod LogLaws
 pub mod WalkLaws
 pub mod WordLaws
 pub mod NeedLaws
+pub mod OneReply

@@ -5,10 +5,10 @@ use Rattle.std.proofs.lemmas.Grind.{flat_map-append}
 use Rattle.std.specs.Io.KnownBytes.{Appends}
 use Rattle.shelf_io.specs.Sink.{AppendsPart}
 use Rattle.conncheck.specs.Ends.{Adds, Ends}
-use Rattle.conncheck.specs.Command.{Text}
-use Rattle.conncheck.specs.Outcome.{Outcome, joined, pieces_of, text_of}
 use Rattle.conncheck.specs.declared.status.Stop.{Stop}
 use Rattle.conncheck.specs.declared.status.Stop.TheVariants.{Write, Memory}
+use Rattle.conncheck.specs.Reply.{Reply, joined, text_of}
+use Rattle.conncheck.specs.Words.{Text}
 
 pub start : (o : Option Text) → Appends o o []
 start None = tt
@@ -36,8 +36,8 @@ pub joined_at : (front back : List Text) (line : Text) → joined (front ++ (lin
 joined_at front back line = flat_map-append (λ (t : Text). t) front (line ∷ back)
 
 -- the call ended at this line
-pub stopped_at : (o : Outcome) (old now new : Option Text) (front back : List Text) (line : Text) (e : Stop)
-    → front ++ (line ∷ back) ≡ pieces_of o → Appends old now (joined front) → Adds {T = Unit {0}} line now new (Err e) → Ends o old new (Err e)
+pub stopped_at : (o : Reply) (old now new : Option Text) (front back : List Text) (line : Text) (e : Stop)
+    → front ++ (line ∷ back) ≡ o.pieces → Appends old now (joined front) → Adds {T = Unit {0}} line now new (Err e) → Ends o old new (Err e)
 stopped_at o old now new front back line Write parts front_is adds =
     part_of old now new (joined front) line (joined back) (text_of o) (sym (joined_at front back line) ∙ ap joined parts) front_is adds
 stopped_at o old now new front back line Memory parts front_is adds = record {
@@ -48,8 +48,8 @@ stopped_at o old now new front back line Memory parts front_is adds = record {
 }
 
 -- want of memory before anything was printed
-pub nothing : (o : Outcome) (old : Option Text) → Ends o old old (Err Memory)
-nothing o old = record { front = []; back = pieces_of o; parts = refl; follows = start old }
+pub nothing : (o : Reply) (old : Option Text) → Ends o old old (Err Memory)
+nothing o old = record { front = []; back = o.pieces; parts = refl; follows = start old }
 
 -- one line is the whole text
 pub alone : (old new : Option Text) (line text : Text) → text ≡ line → Appends old new text → Appends old new (joined (line ∷ []))
@@ -66,8 +66,8 @@ row_at {X} f xs i d t lt =
     ∙ ap (λ (ys : List Text). ys ++ (t ∷ [])) (sym (map-append f (take i xs) (x ∷ drop (i + 1) xs)) ∙ ap (map f) cut)
 
 -- the whole text, after its last piece
-pub all_out : (o : Outcome) (old now new : Option Text) (front : List Text) (last : Text)
-    → front ++ (last ∷ []) ≡ pieces_of o → Appends old now (joined front) → Appends now new last → Appends old new (text_of o)
+pub all_out : (o : Reply) (old now new : Option Text) (front : List Text) (last : Text)
+    → front ++ (last ∷ []) ≡ o.pieces → Appends old now (joined front) → Appends now new last → Appends old new (text_of o)
 all_out o old now new front last parts front_is last_is =
     let e : joined front ++ last ≡ text_of o = ap (λ (t : Text). joined front ++ t) (sym (append-nil last)) ∙ sym (joined_at front [] last) ∙ ap joined parts in
     let P : Text → Type 0 = λ t. Appends old new t in

@@ -1,13 +1,11 @@
--- The outcome by the files that were read.
+-- The reply by the files that were read.
 use Rattle.std.proofs.Common.{rules, arith, subst, zero, suc, ◌^◌, ◌≡◌, ◌≤◌, ◌∙◌, ◌++◌, ℕ, Bool, true, false, List, [], ◌∷◌, length, Option, Some, None, Result, Err, refl, sym, ap, inl, inr, if◌then◌else◌, ◌<◌, ◌+◌, map, take, drop, get_or, add-one, drop-cons}
 use Rattle.std.proofs.lemmas.List.{map-append, take-append-drop, take_more}
 use Rattle.std.specs.Str.{bytes_eq}
 use Rattle.bits_core.specs.declared.names.File.{File}
 use Rattle.shelf_io.specs.Files.{Files}
 use Rattle.conncheck.specs.Answers.{Allows, without}
-use Rattle.conncheck.specs.Command.{Text}
 use Rattle.conncheck.specs.Ends.{Ends, EndsFor}
-use Rattle.conncheck.specs.Outcome.{OfFiles, Outcome, missing, too_long}
 use Rattle.conncheck.specs.Reads.{AreRead, AreSmall, IsRead, MeetsLonger, Reaches, ReadsOne, StopsAt, UnreadEnds}
 use Rattle.conncheck.specs.declared.reads.Unread.{Unread}
 use Rattle.conncheck.specs.declared.reads.Unread.TheVariants.{Missing, TooLong, NoMemory}
@@ -16,6 +14,9 @@ use Rattle.conncheck.specs.declared.status.Stop.{Stop}
 use Rattle.conncheck.specs.declared.status.Stop.TheVariants.{Memory}
 use Rattle.conncheck.proofs.AllowsLaws.{absent, any_file, gone_file, long_file, read_file}
 use Rattle.conncheck.proofs.PrintLaws.{nothing}
+use Rattle.conncheck.specs.Reading.{OfFiles}
+use Rattle.conncheck.specs.Reply.{Reply, missing, too_long}
+use Rattle.conncheck.specs.Words.{Text}
 
 -- one name more
 pub more_read : (files : Files) (ns : List Text) (fs : List File) (n : Text) (f : File) → AreRead files ns fs → IsRead files n f → AreRead files (ns ++ n ∷ []) (fs ++ f ∷ [])
@@ -53,28 +54,28 @@ stops_at steady before_it files names n NoMemory still r one = tt
 pub same_file : (n : Text) (f : File) → f.name ≡ n → record { name = n; bytes = f.bytes } ≡ f
 same_file n f e = ap (λ m. record { name = m; bytes = f.bytes }) (sym e)
 
-module _ (Next : List File → Outcome → Type 0) where
-  one_read : (ns : List Text) (files : Files) (n : Text) (f : File) (o : Outcome) → IsRead files n f → OfFiles ns files (λ more. Next (f ∷ more)) o → OfFiles (n ∷ ns) files Next o
+module _ (Next : List File → Reply → Type 0) where
+  one_read : (ns : List Text) (files : Files) (n : Text) (f : File) (o : Reply) → IsRead files n f → OfFiles ns files (λ more. Next (f ∷ more)) o → OfFiles (n ∷ ns) files Next o
   one_read ns files n f o r h =
       let P : File → Type 0 = λ x. OfFiles ns files (λ more. Next (x ∷ more)) o in
       read_file n (λ bytes. OfFiles ns files (λ more. Next (record { name = n; bytes = bytes } ∷ more))) (files n) f.bytes o r.is_there r.fits (subst P (sym (same_file n f r.is_named)) h)
 
-pub of_all : (Next : List File → Outcome → Type 0) (files : Files) (ns : List Text) (fs : List File) (o : Outcome) → AreRead files ns fs → Next fs o → OfFiles ns files Next o
+pub of_all : (Next : List File → Reply → Type 0) (files : Files) (ns : List Text) (fs : List File) (o : Reply) → AreRead files ns fs → Next fs o → OfFiles ns files Next o
 of_all Next files [] [] o all h = h
 of_all Next files [] (x ∷ fs) o all h = absurd all
 of_all Next files (n ∷ ns) [] o all h = absurd all
 of_all Next files (n ∷ ns) (f ∷ fs) o all h = one_read Next ns files n f o all.0 (of_all (λ more. Next (f ∷ more)) files ns fs o all.1 h)
 
 -- what holds where the files before were read
-behind : (Next : List File → Outcome → Type 0) (files : Files) (front back : List Text) (before : List File) (o : Outcome)
-    → AreRead files front before → ((Then : List File → Outcome → Type 0) → OfFiles back files Then o) → OfFiles (front ++ back) files Next o
+behind : (Next : List File → Reply → Type 0) (files : Files) (front back : List Text) (before : List File) (o : Reply)
+    → AreRead files front before → ((Then : List File → Reply → Type 0) → OfFiles back files Then o) → OfFiles (front ++ back) files Next o
 behind Next files [] back [] o all h = h Next
 behind Next files [] back (x ∷ fs) o all h = absurd all
 behind Next files (n ∷ ns) back [] o all h = absurd all
 behind Next files (n ∷ ns) back (f ∷ fs) o all h = one_read Next (ns ++ back) files n f o all.0 (behind (λ more. Next (f ∷ more)) files ns back fs o all.1 h)
 
 -- the first of several names, where one of them is away
-hides : (Next : List File → Outcome → Type 0) (files : Files) (rest : List Text) (m n : Text) (f : File) → IsRead files m f
+hides : (Next : List File → Reply → Type 0) (files : Files) (rest : List Text) (m n : Text) (f : File) → IsRead files m f
     → OfFiles rest (without n files) (λ more. Next (f ∷ more)) (missing n) → (b : Bool) → bytes_eq m n ≡ b → OfFiles (m ∷ rest) (without n files) Next (missing n)
 hides Next files rest m n f one later true same =
     let t : m ≡ n = search rules in
@@ -86,22 +87,22 @@ hides Next files rest m n f one later false other =
     one_read Next rest (without n files) m f (missing n) (record { is_named = one.is_named; is_there = kept; fits = one.fits }) later
 
 -- a file that is away is missing, whatever stands before it
-hidden : (Next : List File → Outcome → Type 0) (files : Files) (front back : List Text) (n : Text) (before : List File)
+hidden : (Next : List File → Reply → Type 0) (files : Files) (front back : List Text) (n : Text) (before : List File)
     → AreRead files front before → OfFiles (front ++ (n ∷ back)) (without n files) Next (missing n)
 hidden Next files [] back n before all = gone_file n (λ bytes. OfFiles back (without n files) (λ more. Next (record { name = n; bytes = bytes } ∷ more))) (without n files n) (absent files n)
 hidden Next files (m ∷ ns) back n [] all = absurd all
 hidden Next files (m ∷ ns) back n (f ∷ fs) all =
     hides Next files (ns ++ (n ∷ back)) m n f all.0 (hidden (λ more. Next (f ∷ more)) files ns back n fs all.1) (bytes_eq m n) refl
 
--- there is an outcome, whatever the files are
-pub any_files : (Next : List File → Outcome → Type 0) (files : Files) (ns : List Text) → ((fs : List File) → (x : Outcome) × Next fs x) → (x : Outcome) × OfFiles ns files Next x
+-- there is an reply, whatever the files are
+pub any_files : (Next : List File → Reply → Type 0) (files : Files) (ns : List Text) → ((fs : List File) → (x : Reply) × Next fs x) → (x : Reply) × OfFiles ns files Next x
 any_files Next files [] h = h []
 any_files Next files (n ∷ ns) h =
     any_file n (λ bytes. OfFiles ns files (λ more. Next (record { name = n; bytes = bytes } ∷ more))) (files n)
     (λ bytes. any_files (λ more. Next (record { name = n; bytes = bytes } ∷ more)) files ns (λ more. h (record { name = n; bytes = bytes } ∷ more)))
 
 -- the same where the files behind a name come to what is missing
-pub hidden_behind : (Next : List File → Outcome → Type 0) (files : Files) (ns : List Text) (n : Text) (fs : List File)
+pub hidden_behind : (Next : List File → Reply → Type 0) (files : Files) (ns : List Text) (n : Text) (fs : List File)
     → AreRead files ns fs → Next fs (missing n) → OfFiles ns (without n files) Next (missing n)
 hidden_behind Next files [] n [] all h = h
 hidden_behind Next files [] n (f ∷ fs) all h = absurd all
@@ -131,8 +132,8 @@ small_more [] f small one (suc at) other lt = absurd (omega arith)
 small_more (x ∷ fs) f small one zero other lt = small 0 other (omega arith)
 small_more (x ∷ fs) f small one (suc at) other lt = small_more fs f (λ i o l. small (suc i) o (omega arith)) one at other (omega arith)
 
-module _ (names : List Text) (Of : Files → Outcome → Type 0) (Next : Files → List File → Outcome → Type 0)
-    (by_reads : (files : Files) (o : Outcome) → OfFiles names files (Next files) o → Of files o) where
+module _ (names : List Text) (Of : Files → Reply → Type 0) (Next : Files → List File → Reply → Type 0)
+    (by_reads : (files : Files) (o : Reply) → OfFiles names files (Next files) o → Of files o) where
   missing_at : (steady : Type 0) (files : Files) (n : Text) → Reaches files names n → (steady → files n ≡ None) → Allows steady Of files (missing n)
   missing_at steady files n r gone = at (files n) refl
     where
@@ -154,11 +155,11 @@ module _ (names : List Text) (Of : Files → Outcome → Type 0) (Next : Files �
 
   -- the call ends where not all files are read
   pub unread_ends : (steady : Type 0) (files : Files) (u : Unread) (old new : Option Text) (r : Result Status Stop)
-      → ((fs : List File) → (x : Outcome) × Next files fs x) → StopsAt steady files names u → UnreadEnds u old new r → EndsFor steady Of files old new r
-  unread_ends steady files (Missing n) old new r any s e = record { outcome = missing n.now; allowed = missing_at steady files n.now s.0 s.1; ended = e }
-  unread_ends steady files TooLong old new r any s e = record { outcome = too_long; allowed = inl (long_at files s); ended = e }
+      → ((fs : List File) → (x : Reply) × Next files fs x) → StopsAt steady files names u → UnreadEnds u old new r → EndsFor steady Of files old new r
+  unread_ends steady files (Missing n) old new r any s e = record { reply = missing n.now; allowed = missing_at steady files n.now s.0 s.1; ended = e }
+  unread_ends steady files TooLong old new r any s e = record { reply = too_long; allowed = inl (long_at files s); ended = e }
   unread_ends steady files NoMemory old new r any s e =
       let o = any_files (Next files) files names any in
       let P : Option Text → Type 0 = λ x. Ends o.0 old x (Err Memory) in
       let Q : Result Status Stop → Type 0 = λ x. Ends o.0 old new x in
-      record { outcome = o.0; allowed = inl (by_reads files o.0 o.1); ended = subst Q (sym e.1) (subst P (sym e.0) (nothing o.0 old)) }
+      record { reply = o.0; allowed = inl (by_reads files o.0 o.1); ended = subst Q (sym e.1) (subst P (sym e.0) (nothing o.0 old)) }

@@ -7,11 +7,11 @@ use Rattle.std.specs.List.{list_all}
 use Rattle.plain_form.specs.SeenTable.{seen_row}
 use Rattle.plain_form.specs.declared.table.Line.{Line}
 use Rattle.plain_form.specs.declared.wires.Slot.{Slot}
-use Rattle.conncheck.specs.Command.{Text}
 use Rattle.conncheck.specs.Judge.{judge}
-use Rattle.conncheck.specs.Outcome.{pieces_of, report, status_of}
 use Rattle.conncheck.specs.declared.status.Status.TheVariants as status
 use Rattle.conncheck.specs.Texts.{Judged, judged_text, total_of, total_text, was_proved}
+use Rattle.conncheck.specs.Reply.{report}
+use Rattle.conncheck.specs.Words.{Text}
 
 count_cons : {A : Type 0} (p : A → Bool) (x : A) (xs : List A) → count_by p (x ∷ xs) ≡ cond (p x) 1 0 + count_by p xs
 count_cons p x xs = sum_by-cons (λ y. cond (p y) 1 0) x xs
@@ -64,14 +64,14 @@ module _ (top : Text) (names : List Text) (slots : List Slot) (rows : List Line)
       ap (λ x. total_of x p q) (a ∙ sym lengths) ∙ ap (λ x. total_of (length js) x q) (b ∙ sym (counted was_proved))
       ∙ ap (λ x. total_of (length js) (count_by was_proved js) x) (c ∙ sym (counted (λ j. not (was_proved j))))
 
-  pub pieces_at : map text_at rows ++ (total_text js ∷ []) ≡ pieces_of (report top names js)
+  pub pieces_at : map text_at rows ++ (total_text js ∷ []) ≡ (report top names js).pieces
   pieces_at = ap (λ (ts : List Text). ts ++ (total_text js ∷ [])) (sym (map-map (judged_text top names) (λ r. judge slots (seen_row r)) rows) ∙ ap (map (judged_text top names)) together)
 
   all_rows : list_all was_proved js ≡ list_all proved_row rows
   all_rows = ap (list_all was_proved) (sym together) ∙ all_map was_proved (λ r. judge slots (seen_row r)) rows
 
-  pub status_done : (q : ℕ) → q ≡ count_by (λ r. not (proved_row r)) rows → q ≡ 0 → status.Done ≡ status_of (report top names js)
+  pub status_done : (q : ℕ) → q ≡ count_by (λ r. not (proved_row r)) rows → q ≡ 0 → status.Done ≡ (report top names js).status
   status_done q e z = sym (ap (λ b. if b then status.Done else status.Findings) (all_rows ∙ none_left proved_row rows (sym e ∙ z)))
 
-  pub status_findings : (q : ℕ) → q ≡ count_by (λ r. not (proved_row r)) rows → (q ≡ 0 → ⊥) → status.Findings ≡ status_of (report top names js)
+  pub status_findings : (q : ℕ) → q ≡ count_by (λ r. not (proved_row r)) rows → (q ≡ 0 → ⊥) → status.Findings ≡ (report top names js).status
   status_findings q e z = sym (ap (λ b. if b then status.Done else status.Findings) (all_rows ∙ some_left proved_row rows (λ y. z (e ∙ y))))

@@ -11,9 +11,7 @@ use Rattle.vl_lex.specs.Lexed.{Seen, view}
 use Rattle.vl_tree.specs.declared.tokens.Token.{Token}
 use Rattle.vl_lex.specs.Walk.{kept, most_files, walk_all}
 use Rattle.conncheck.specs.Answers.{Allows, without}
-use Rattle.conncheck.specs.Command.{Text, Check, Command, check, lrat}
 use Rattle.conncheck.specs.Ends.{Ends, EndsFor}
-use Rattle.conncheck.specs.Outcome.{IsOutcome, OfLogs, bad_words, OfCheck, OfFile, OfReached, OfWalk, OfWords, Outcome, first_of, limited, missing, most_included, not_yet, refused, too_long}
 use Rattle.conncheck.specs.Reads.{AreRead, IsRead, ReadsOne, UnreadEnds}
 use Rattle.conncheck.specs.Texts.{place_text}
 use Rattle.conncheck.specs.declared.reads.Unread.{Unread}
@@ -22,22 +20,28 @@ use Rattle.conncheck.specs.declared.status.Status.{Status}
 use Rattle.conncheck.specs.declared.status.Stop.{Stop}
 use Rattle.conncheck.specs.declared.status.Stop.TheVariants.{Memory}
 use Rattle.conncheck.proofs.AllowsLaws.{absent, any_file, gone_file, long_file, read_file}
-use Rattle.conncheck.proofs.JudgeLaws.{some_outcome}
+use Rattle.conncheck.proofs.JudgeLaws.{some_reply}
 use Rattle.conncheck.proofs.LogLaws.{some_log}
 use Rattle.conncheck.proofs.NeedLaws.{IsAsking, kept_asks}
 use Rattle.conncheck.proofs.PrintLaws.{nothing}
 use Rattle.conncheck.proofs.ReadLaws as reads
+use Rattle.conncheck.specs.Command.{Command, IsReply, check, lrat}
+use Rattle.conncheck.specs.Reading.{OfFile}
+use Rattle.conncheck.specs.Reply.{Reply, bad_words, limited, missing, not_yet, refused, too_long}
+use Rattle.conncheck.specs.Words.{Text}
+use Rattle.conncheck.specs.commands.Check.{Means, OfReached, OfWalk, OfWords, Values, first_of, most_included}
+use Rattle.conncheck.specs.commands.Lrat.{OfLogs}
 
-any_need : (c : Check) (table : Text) (fs : List File) (Need : Text → Outcome → Type 0) (r : Reached (List Seen)) (o : Outcome) → OfReached c table fs (λ n x. ⊥) r o → OfReached c table fs Need r o
+any_need : (c : Values) (table : Text) (fs : List File) (Need : Text → Reply → Type 0) (r : Reached (List Seen)) (o : Reply) → OfReached c table fs (λ n x. ⊥) r o → OfReached c table fs Need r o
 any_need c table fs Need (Ok ts) o h = h
 any_need c table fs Need (Err (halt.Stop (stop.Fault f))) o h = h
 any_need c table fs Need (Err (halt.Stop (stop.Limit l))) o h = h
 any_need c table fs Need (Err (halt.Stop stop.NoMemory)) o h = absurd h
 any_need c table fs Need (Err (halt.Need n)) o h = absurd h
 
-module _ (c : Check) (table : Text) (named : ℕ) where
+module _ (c : Values) (table : Text) (named : ℕ) where
   -- the walk over these files asks for no file more
-  pub at_end : (left : ℕ) (fs : List File) (files : Files) (o : Outcome) (r : Reached (List Seen)) → kept fs named c.defines ≡ r
+  pub at_end : (left : ℕ) (fs : List File) (files : Files) (o : Reply) (r : Reached (List Seen)) → kept fs named c.defines ≡ r
       → OfReached c table fs (λ n x. ⊥) r o → OfWalk left c table named fs files o
   unfolding OfWalk
   at_end zero fs files o r e h =
@@ -55,22 +59,22 @@ module _ (c : Check) (table : Text) (named : ℕ) where
       subst P (sym e) refl
 
   -- it asks for a file
-  at_need : (left : ℕ) (fs : List File) (files : Files) (n : Text) (o : Outcome) → kept fs named c.defines ≡ Err (halt.Need n)
+  at_need : (left : ℕ) (fs : List File) (files : Files) (n : Text) (o : Reply) → kept fs named c.defines ≡ Err (halt.Need n)
       → OfFile n (λ bytes. OfWalk left c table named (fs ++ (record { name = n; bytes = bytes }) ∷ []) files) (files n) o → OfWalk (suc left) c table named fs files o
   unfolding OfWalk
   at_need left fs files n o e h =
       let P : Reached (List Seen) → Type 0 = λ x. OfReached c table fs (λ m. OfFile m (λ bytes. OfWalk left c table named (fs ++ (record { name = m; bytes = bytes }) ∷ []) files) (files m)) x o in
       subst P (sym e) h
 
-  -- there is always an outcome
-  any_reached : (fs : List File) (Need : Text → Outcome → Type 0) → ((n : Text) → (x : Outcome) × Need n x) → (r : Reached (List Seen)) → IsAsking r → (x : Outcome) × OfReached c table fs Need r x
-  any_reached fs Need any (Ok ts) h = some_outcome c table (map (λ t. t.text) ts)
+  -- there is always an reply
+  any_reached : (fs : List File) (Need : Text → Reply → Type 0) → ((n : Text) → (x : Reply) × Need n x) → (r : Reached (List Seen)) → IsAsking r → (x : Reply) × OfReached c table fs Need r x
+  any_reached fs Need any (Ok ts) h = some_reply c table (map (λ t. t.text) ts)
   any_reached fs Need any (Err (halt.Stop (stop.Fault f))) h = (refused f.code (place_text fs f.place), refl)
   any_reached fs Need any (Err (halt.Stop (stop.Limit l))) h = (limited l, refl)
   any_reached fs Need any (Err (halt.Stop stop.NoMemory)) h = absurd h.is
   any_reached fs Need any (Err (halt.Need n)) h = any n
 
-  pub any_walk : (left : ℕ) (fs : List File) (files : Files) → (x : Outcome) × OfWalk left c table named fs files x
+  pub any_walk : (left : ℕ) (fs : List File) (files : Files) → (x : Reply) × OfWalk left c table named fs files x
   unfolding OfWalk
   any_walk zero fs files = any_reached fs (λ n x. x ≡ limited code.Files) (λ n. (limited code.Files, refl)) (kept fs named c.defines) (kept_asks fs named c.defines)
   any_walk (suc left) fs files =
@@ -79,7 +83,7 @@ module _ (c : Check) (table : Text) (named : ℕ) where
       (kept fs named c.defines) (kept_asks fs named c.defines)
 
   -- a file that was asked for and read
-  read_on : (left : ℕ) (fs : List File) (files : Files) (n : Text) (f : File) (o : Outcome) → kept fs named c.defines ≡ Err (halt.Need n)
+  read_on : (left : ℕ) (fs : List File) (files : Files) (n : Text) (f : File) (o : Reply) → kept fs named c.defines ≡ Err (halt.Need n)
       → IsRead files n f → OfWalk left c table named (fs ++ f ∷ []) files o → OfWalk (suc left) c table named fs files o
   read_on left fs files n f o e r h =
       let P : File → Type 0 = λ x. OfWalk left c table named (fs ++ x ∷ []) files o in
@@ -104,14 +108,14 @@ module _ (c : Check) (table : Text) (named : ℕ) where
       let kept_file : without m files n ≡ Some f.bytes = ap (λ b. if b then None else files n) other ∙ r.is_there in
       read_on left fs (without m files) n f (missing m) e (record { is_named = r.is_named; is_there = kept_file; fits = r.fits }) h
 
-  allowed_on : (steady before_it : Type 0) (left : ℕ) (fs : List File) (files : Files) (n : Text) (f : File) (o : Outcome) → (steady → before_it)
+  allowed_on : (steady before_it : Type 0) (left : ℕ) (fs : List File) (files : Files) (n : Text) (f : File) (o : Reply) → (steady → before_it)
       → kept fs named c.defines ≡ Err (halt.Need n) → IsRead files n f
       → Allows before_it (OfWalk left c table named (fs ++ f ∷ [])) files o → Allows steady (OfWalk (suc left) c table named fs) files o
   allowed_on steady before_it left fs files n f o still e r (inl h) = inl (read_on left fs files n f o e r h)
   allowed_on steady before_it left fs files n f o still e r (inr h) =
       let fails = h.1 in
-      let P : Outcome → Type 0 = λ x. OfWalk left c table named (fs ++ f ∷ []) (without fails.name files) x in
-      let Q : Outcome → Type 0 = λ x. OfWalk (suc left) c table named fs (without fails.name files) x in
+      let P : Reply → Type 0 = λ x. OfWalk left c table named (fs ++ f ∷ []) (without fails.name files) x in
+      let Q : Reply → Type 0 = λ x. OfWalk (suc left) c table named fs (without fails.name files) x in
       inr (
         (λ s. h.0 (still s)),
         record {
@@ -126,12 +130,12 @@ module _ (c : Check) (table : Text) (named : ℕ) where
       → kept fs named c.defines ≡ Err (halt.Need n) → IsRead files n f → more ≡ fs ++ f ∷ []
       → EndsFor before_it (OfWalk left c table named more) files old new r → EndsFor steady (OfWalk (suc left) c table named fs) files old new r
   ends_on steady before_it left fs more files n f old new r still e one is ends =
-      let P : List File → Type 0 = λ x. Allows before_it (OfWalk left c table named x) files ends.outcome in
-      record { outcome = ends.outcome; allowed = allowed_on steady before_it left fs files n f ends.outcome still e one (subst P is ends.allowed); ended = ends.ended }
+      let P : List File → Type 0 = λ x. Allows before_it (OfWalk left c table named x) files ends.reply in
+      record { reply = ends.reply; allowed = allowed_on steady before_it left fs files n f ends.reply still e one (subst P is ends.allowed); ended = ends.ended }
 
   -- want of memory
   pub memory_on : (steady : Type 0) (left : ℕ) (fs : List File) (files : Files) (old : Option Text) → EndsFor steady (OfWalk left c table named fs) files old old (Err Memory)
-  memory_on steady left fs files old = let o = any_walk left fs files in record { outcome = o.0; allowed = inl o.1; ended = nothing o.0 old }
+  memory_on steady left fs files old = let o = any_walk left fs files in record { reply = o.0; allowed = inl o.1; ended = nothing o.0 old }
 
   missing_on : (steady before_it : Type 0) (left : ℕ) (fs : List File) (files : Files) (n : Text) → (steady → before_it) → kept fs named c.defines ≡ Err (halt.Need n)
       → (before_it → files n ≡ None) → (x : Option Text) → files n ≡ x → Allows steady (OfWalk (suc left) c table named fs) files (missing n)
@@ -145,9 +149,9 @@ module _ (c : Check) (table : Text) (named : ℕ) where
       → EndsFor steady (OfWalk (suc left) c table named fs) files old new r
   unread_on steady before_it left fs files n (Missing m) old new r still e one ends =
       let P : Text → Type 0 = λ x. Ends (missing x) old new r in
-      record { outcome = missing n; allowed = missing_on steady before_it left fs files n still e one.1 (files n) refl; ended = subst P one.0 ends }
+      record { reply = missing n; allowed = missing_on steady before_it left fs files n still e one.1 (files n) refl; ended = subst P one.0 ends }
   unread_on steady before_it left fs files n TooLong old new r still e one ends = record {
-    outcome = too_long;
+    reply = too_long;
     allowed = inl (at_need left fs files n too_long e (long_file n (λ bytes. OfWalk left c table named (fs ++ (record { name = n; bytes = bytes }) ∷ []) files) (files n) one));
     ended = ends;
   }
@@ -161,7 +165,7 @@ texts_same [] = refl
 texts_same (t ∷ ts) = ap (λ (ws : List Text). t.text.now ∷ ws) (texts_same ts)
 
 -- the walk ends with its tokens
-pub at_tokens : (c : Check) (table : Text) (named left : ℕ) (fs : List File) (files : Files) (o : Outcome) (ts : List Token) → kept fs named c.defines ≡ Ok (map view ts)
+pub at_tokens : (c : Values) (table : Text) (named left : ℕ) (fs : List File) (files : Files) (o : Reply) (ts : List Token) → kept fs named c.defines ≡ Ok (map view ts)
     → OfWords c table (map (λ t. t.text.now) ts) o → OfWalk left c table named fs files o
 at_tokens c table named left fs files o ts e h =
     let P : List Text → Type 0 = λ ws. OfWords c table ws o in
@@ -174,26 +178,26 @@ too_many fs named defines lt =
     let over : nat_lt most_files named ≡ true = search rules in
     ap (λ b. if b then Err (halt.Stop (stop.Limit code.Files)) else walk_all fs named defines) over
 
--- the files of a check, where some outcome is wanted
-abbrev pub Front : Check → Files → List File → Outcome → Type 0
+-- the files of a check, where some reply is wanted
+abbrev pub Front : Values → Files → List File → Reply → Type 0
 Front c files [] o = o ≡ not_yet (first_of c.files)
 Front c files (t ∷ fs) o = OfWalk most_included c t.bytes (length fs) fs files o
 
-pub any_front : (c : Check) (files : Files) (fs : List File) → (x : Outcome) × Front c files fs x
+pub any_front : (c : Values) (files : Files) (fs : List File) → (x : Reply) × Front c files fs x
 any_front c files [] = (not_yet (first_of c.files), refl)
 any_front c files (t ∷ fs) = any_walk c t.bytes (length fs) most_included fs files
 
 -- the walk behind the files that were read
-pub ends_front : (c : Check) (steady before_it : Type 0) (files : Files) (t : File) (fs : List File) (old new : Option Text) (r : Result Status Stop) → (steady → before_it)
-    → IsRead files c.table t → AreRead files c.files fs → EndsFor before_it (OfWalk most_included c t.bytes (length fs) fs) files old new r → EndsFor steady (OfCheck c) files old new r
-ends_front c steady before_it files t fs old new r still one all ends = record { outcome = ends.outcome; allowed = at ends.allowed; ended = ends.ended }
+pub ends_front : (c : Values) (steady before_it : Type 0) (files : Files) (t : File) (fs : List File) (old new : Option Text) (r : Result Status Stop) → (steady → before_it)
+    → IsRead files c.table t → AreRead files c.files fs → EndsFor before_it (OfWalk most_included c t.bytes (length fs) fs) files old new r → EndsFor steady (Means c) files old new r
+ends_front c steady before_it files t fs old new r still one all ends = record { reply = ends.reply; allowed = at ends.allowed; ended = ends.ended }
   where
-    at : Allows before_it (OfWalk most_included c t.bytes (length fs) fs) files ends.outcome → Allows steady (OfCheck c) files ends.outcome
-    at (inl h) = inl (reads.of_all (Front c files) files (c.table ∷ c.files) (t ∷ fs) ends.outcome (one, all) h)
+    at : Allows before_it (OfWalk most_included c t.bytes (length fs) fs) files ends.reply → Allows steady (Means c) files ends.reply
+    at (inl h) = inl (reads.of_all (Front c files) files (c.table ∷ c.files) (t ∷ fs) ends.reply (one, all) h)
     at (inr h) =
         let fails = h.1 in
-        let P : Outcome → Type 0 = λ x. OfWalk most_included c t.bytes (length fs) fs (without fails.name files) x in
-        let Q : Outcome → Type 0 = λ x. OfCheck c (without fails.name files) x in
+        let P : Reply → Type 0 = λ x. OfWalk most_included c t.bytes (length fs) fs (without fails.name files) x in
+        let Q : Reply → Type 0 = λ x. Means c (without fails.name files) x in
         inr (
           (λ s. h.0 (still s)),
           record {
@@ -203,8 +207,8 @@ ends_front c steady before_it files t fs old new r still one all ends = record {
           },
         )
 
--- there is always an outcome of a call
-pub any_command : (command : Option Command) (files : Files) → (x : Outcome) × IsOutcome command files x
+-- there is always an reply of a call
+pub any_command : (command : Option Command) (files : Files) → (x : Reply) × IsReply command files x
 any_command None files = (bad_words, refl)
 any_command (Some (check c)) files = reads.any_files (Front c files) files (c.table ∷ c.files) (any_front c files)
 any_command (Some (lrat names)) files = reads.any_files OfLogs files names some_log

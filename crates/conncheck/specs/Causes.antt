@@ -1,5 +1,5 @@
 -- When a status may come.
-use Rattle.std.specs.Prelude.{ℕ, ◌≡◌, ◌≤◌, Option, Some, None, ⊤}
+use Rattle.std.specs.Prelude.{ℕ, ◌≡◌, ◌≤◌, Option, None, ⊤, true, is_some}
 use Rattle.shelf_io.specs.Cause.{Rose}
 use Rattle.conncheck.specs.Command.{Command}
 use Rattle.conncheck.specs.declared.status.Status.{Status}
@@ -29,9 +29,7 @@ WriteFaultCause before now _ = now ≡ before
 
 -- BadWords comes exactly where the words are no command, unless a write failed or memory ran out before that could be said
 abbrev pub BadWordsCause : Option Command → Status → Type 0
-BadWordsCause None BadWords = ⊤
-BadWordsCause None WriteFault = ⊤
-BadWordsCause None NoMemory = ⊤
-BadWordsCause None _ = ⊥
-BadWordsCause (Some _) BadWords = ⊥
-BadWordsCause (Some _) _ = ⊤
+BadWordsCause command BadWords = command ≡ None
+BadWordsCause command WriteFault = ⊤
+BadWordsCause command NoMemory = ⊤
+BadWordsCause command _ = is_some command ≡ true

@@ -6,18 +6,21 @@ use Rattle.shelf_io.specs.Files.{Files}
 use Rattle.shelf_io.specs.Sink.{AppendsPart}
 use Rattle.conncheck.specs.Answers.{Allows, AppendsPieces}
 use Rattle.conncheck.specs.Causes.{BadWordsCause, WriteFaultCause}
-use Rattle.conncheck.specs.Command.{Text, Command}
-use Rattle.conncheck.specs.Outcome.{Outcome, pieces_of, status_of, text_of}
+use Rattle.conncheck.specs.Command.{Command}
+use Rattle.conncheck.specs.Reply.{Reply, text_of}
+use Rattle.conncheck.specs.Words.{Text}
+use Rattle.conncheck.specs.declared.message.Message.{Message}
+use Rattle.conncheck.specs.declared.message.Message.TheVariants as message
 use Rattle.conncheck.specs.declared.status.Status.{Status}
 use Rattle.conncheck.specs.declared.status.Status.TheVariants.{BadWords, NoMemory, ReadFault, WriteFault}
 use Rattle.conncheck.specs.declared.status.Stop.{Stop}
 use Rattle.conncheck.specs.declared.status.Stop.TheVariants.{Write, Memory}
 
 -- the whole text with its status, a part of it, or some first pieces
-abbrev pub Ends : Outcome → Option Text → Option Text → Result Status Stop → Type 0
-Ends o old new (Ok s) = (s ≡ status_of o) × Appends old new (text_of o)
-Ends o old new (Err Write) = AppendsPart old new (text_of o)
-Ends o old new (Err Memory) = AppendsPieces old new (pieces_of o)
+abbrev pub Ends : Reply → Option Text → Option Text → Result Status Stop → Type 0
+Ends r old new (Ok s) = (s ≡ r.status) × Appends old new (text_of r)
+Ends r old new (Err Write) = AppendsPart old new (text_of r)
+Ends r old new (Err Memory) = AppendsPieces old new r.pieces
 
 -- one piece more, a part of it, or nothing
 abbrev pub Adds : {T : Type 0} → Text → Option Text → Option Text → Result T Stop → Type 0
@@ -49,14 +52,26 @@ WordsCause command (Ok s) = BadWordsCause command s
 WordsCause command (Err Write) = BadWordsCause command WriteFault
 WordsCause command (Err Memory) = BadWordsCause command NoMemory
 
--- what a check answers once its files are read
+-- what a command answers once its files are read
 abbrev pub IsOfBytes : Result Status Stop → Type 0
 IsOfBytes (Ok BadWords) = ⊥
 IsOfBytes (Ok ReadFault) = ⊥
 IsOfBytes _ = ⊤
 
--- the same with an outcome that the files allow
-pub record EndsFor (steady : Type 0) (Of : Files → Outcome → Type 0) (files : Files) (old new : Option Text) (r : Result Status Stop) : Type 0 where
-  pub outcome : Outcome
-  pub allowed : Allows steady Of files outcome
-  pub ended : Ends outcome old new r
+-- what a message answers
+abbrev pub IsOfMessage : Message → Result Status Stop → Type 0
+IsOfMessage message.BadWords r = ⊤
+IsOfMessage (message.Missing name) r = IsNoBadWords r
+IsOfMessage _ r = IsOfBytes r
+
+-- with a reply of this kind
+pub record EndsBy (Is : Reply → Type 0) (old new : Option Text) (r : Result Status Stop) : Type 0 where
+  pub reply : Reply
+  pub is : Is reply
+  pub ended : Ends reply old new r
+
+-- with a reply that the files allow
+pub record EndsFor (steady : Type 0) (Of : Files → Reply → Type 0) (files : Files) (old new : Option Text) (r : Result Status Stop) : Type 0 where
+  pub reply : Reply
+  pub allowed : Allows steady Of files reply
+  pub ended : Ends reply old new r

@@ -1,10 +1,13 @@
-pub mod Command
 pub mod Words
-pub mod Causes
 pub mod Texts
-pub mod Outcome
+pub mod Reply
+pub mod Reading
+pub mod commands
+pub mod Command
+pub mod Causes
+pub mod OneReply
 pub mod Answers
 pub mod Ends
+pub mod Seen
 pub mod Reads
 pub mod Judge
-pub mod Judged

@@ -4,9 +4,11 @@ use Rattle.bits_core.specs.declared.names.File.{File}
 use Rattle.shelf_io.specs.Cause.{Rose}
 use Rattle.shelf_io.specs.Files.{Files}
 use Rattle.shelf_io.specs.Shelf.{IsLonger}
-use Rattle.conncheck.specs.Command.{Text}
+use Rattle.conncheck.specs.Words.{Text}
 use Rattle.conncheck.specs.Ends.{Ends}
-use Rattle.conncheck.specs.Outcome.{missing, most, too_long}
+use Rattle.vl_tree.specs.declared.faults.Code.TheVariants as code
+use Rattle.vl_tree.specs.Codes.{bound}
+use Rattle.conncheck.specs.Reply.{missing, too_long}
 use Rattle.conncheck.specs.declared.reads.Unread.{Unread}
 use Rattle.conncheck.specs.declared.reads.Unread.TheVariants.{Missing, TooLong, NoMemory}
 use Rattle.conncheck.specs.declared.status.Status.{Status}
@@ -17,7 +19,7 @@ use Rattle.conncheck.specs.declared.status.Stop.TheVariants.{Memory}
 pub record IsRead (files : Files) (name : Text) (f : File) : Type 0 where
   pub is_named : f.name ≡ name
   pub is_there : files name ≡ Some f.bytes
-  pub fits : length f.bytes ≤ most
+  pub fits : length f.bytes ≤ bound code.FileBytes
 
 -- one file for each name, in order
 abbrev pub AreRead : Files → List Text → List File → Type 0
@@ -51,14 +53,14 @@ ReadsCause before now (Err u) = UnreadCause u before now
 abbrev pub ReadsOne : Type 0 → Files → Text → Result File Unread → Type 0
 ReadsOne steady files name (Ok f) = IsRead files name f
 ReadsOne steady files name (Err (Missing n)) = (n.now ≡ name) × (steady → files name ≡ None)
-ReadsOne steady files name (Err TooLong) = IsLonger most (files name)
+ReadsOne steady files name (Err TooLong) = IsLonger (bound code.FileBytes) (files name)
 ReadsOne steady files name (Err NoMemory) = ⊤
 
 -- the first name that is too long
 pub record MeetsLonger (files : Files) (names : List Text) : Type 0 where
   pub name : Text
   pub reaches : Reaches files names name
-  pub longer : IsLonger most (files name)
+  pub longer : IsLonger (bound code.FileBytes) (files name)
 
 -- where not all files are read
 abbrev pub StopsAt : Type 0 → Files → List Text → Unread → Type 0

@@ -2,7 +2,7 @@
 use Rattle.std.specs.Prelude.{List, [], ◌++◌, ℕ, Option, Some, None, slice_get, Bool, true, false, not, codes, decimal, length, count_by, flat_map, slice_index_or}
 use Rattle.bits_core.specs.declared.names.File.{File}
 use Rattle.design_core.specs.declared.place.BitRef.{BitRef}
-use Rattle.vl_tree.specs.Codes.{number, name}
+use Rattle.vl_tree.specs.Codes.{bound, name, number}
 use Rattle.vl_tree.specs.declared.faults.Code.{Code}
 use Rattle.vl_tree.specs.declared.faults.Code.TheVariants as code
 use Rattle.vl_tree.specs.declared.faults.Place.{Place}
@@ -11,7 +11,7 @@ use Rattle.plain_form.specs.Table.{Row}
 use Rattle.plain_rows.specs.Verdicts.{Verdict, proved, refuted}
 use Rattle.log_verdict.specs.declared.judge.LogAnswer.{LogAnswer}
 use Rattle.log_verdict.specs.declared.judge.LogAnswer.TheVariants as log
-use Rattle.conncheck.specs.Command.{Text}
+use Rattle.conncheck.specs.Words.{Text}
 
 -- the name of a file by its place
 abbrev pub name_at : Option File → Text
@@ -52,22 +52,8 @@ total_of n p r = (((((codes "TOTAL " ++ decimal n) ++ codes " proved ") ++ decim
 abbrev pub total_text : List Judged → Text
 total_text js = total_of (length js) (count_by was_proved js) (count_by (λ j. not (was_proved j)) js)
 
--- the number that a limit sets
-abbrev pub limit_of : Code → ℕ
-limit_of code.FileBytes = 16777216
-limit_of code.Tokens = 4194304
-limit_of code.Scopes = 65536
-limit_of code.Weight = 4194304
-limit_of code.Rows = 10000
-limit_of code.Conditions = 32
-limit_of code.Latency = 64
-limit_of code.Candidates = 65536
-limit_of code.Files = 1024
-limit_of code.Ports = 65536
-limit_of _ = 0
-
 abbrev pub limit_text : Code → Text
-limit_text c = (((((codes "LIMIT " ++ number c) ++ codes " ") ++ name c) ++ codes " ") ++ decimal (limit_of c)) ++ codes "\n"
+limit_text c = (((((codes "LIMIT " ++ number c) ++ codes " ") ++ name c) ++ codes " ") ++ decimal (bound c)) ++ codes "\n"
 
 -- a file's name and the line, or a path
 abbrev pub place_text : List File → Place → Text
@@ -77,9 +63,17 @@ place_text files (place.Path path) = path
 abbrev pub refused_text : Code → Text → Text
 refused_text c at = (((((codes "REFUSED " ++ number c) ++ codes " ") ++ name c) ++ codes "\nAT ") ++ at) ++ codes "\n"
 
+-- a form that is not built yet, in the file of this name
+abbrev pub not_yet_text : Text → Text
+not_yet_text name = line (codes "REFUSED E00 NotYet\nAT ") name
+
+-- a line of a text, by its number
+abbrev pub numbered : ℕ → Text
+numbered n = codes "line " ++ decimal n
+
 -- what a log comes to; a step is named by its number from 1
 abbrev pub log_text : LogAnswer → Text
 log_text log.Verified = codes "VERIFIED\n"
 log_text (log.Rejected step) = line (codes "REJECTED ") (decimal step)
-log_text (log.BadFormula n) = line (codes "REFUSED C17 BadDimacs\nAT line ") (decimal n)
-log_text (log.BadLog n) = line (codes "REFUSED C18 BadLrat\nAT line ") (decimal n)
+log_text (log.BadFormula n) = refused_text code.BadDimacs (numbered n)
+log_text (log.BadLog n) = refused_text code.BadLrat (numbered n)

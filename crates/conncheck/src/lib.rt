@@ -1,7 +1,9 @@
 //! The top call: what the program does with the words of its command line, a shelf of files and a sink.
 #![tactic(auto)]
 
-mod check;
+mod commands;
+mod laws;
+mod message;
 mod reads;
 mod report;
 mod status;
@@ -9,6 +11,8 @@ mod text;
 mod top;
 mod words;
 
+pub use commands::wrong_word;
+pub use laws::replies_are_one;
 pub use status::Status;
 pub use top::run;
 

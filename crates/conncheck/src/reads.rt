@@ -5,9 +5,7 @@ ghost use Rattle.conncheck.specs.Reads.{AreSmall, ReadsAll, ReadsCause, ReadsOne
 use bits_core::{File, FileList, Items, NoMemory};
 use shelf_io::{Shelf, ShelfError};
 use std::alloc::{AllocError, Global};
-
-// The most bytes of a file.
-const MOST: usize = 16_777_216;
+use vl_tree::Code;
 
 /// Why files were not all read: a read failed, at this name; a file has too many bytes; or memory was wanting.
 #[derive(Clone, Copy)]
@@ -47,7 +45,7 @@ fn file_of(alloc: Global, name: &str, bytes: Vec<u8>) -> Result<File, NoMemory>
     })
 }
 
-/// A file of at most 16,777,216 bytes. Linear in the file.
+/// A file within the limit of bytes. Linear in the file.
 pub fn read_one<'n, H: Shelf>(
     alloc: Global,
     name: &'n str,
@@ -59,7 +57,7 @@ pub fn read_one<'n, H: Shelf>(
     ensures small { IfOk result (λ f. length f.bytes ≤ 2 ^ 24) }
     ensures files { IfSome (H.tells shelf.old) (λ files. ReadsOne (H.is_steady shelf.old) files name.entry.now result) }
 {
-    match shelf.read(alloc, name, MOST) {
+    match shelf.read(alloc, name, Code::FileBytes.bound() as usize) {
         Ok(bytes) => Ok(file_of(alloc, name, bytes)?),
         Err(ShelfError::Failed) => Err(Unread::Missing(name)),
         Err(ShelfError::TooLong) => Err(Unread::TooLong),

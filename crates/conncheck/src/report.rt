@@ -1,85 +1,34 @@
 // What is printed.
 ghost use Rattle.std.specs.Prelude.{map, ℕ};
-ghost use Rattle.conncheck.specs.Ends.{Adds, Ends, IsNoBadWords, IsOfBytes, PieceCause, ShelfCause, SinkCause};
-ghost use Rattle.conncheck.specs.Outcome.{bad_words, limited, logged, missing, not_yet, refused, report, too_long};
-ghost use Rattle.conncheck.specs.Reads.{UnreadCause, UnreadEnds};
+ghost use Rattle.conncheck.specs.Ends.{Adds, Ends, IsNoBadWords, IsOfBytes, IsOfMessage, PieceCause, ShelfCause, SinkCause};
 ghost use Rattle.conncheck.specs.Judge.{judge};
-ghost use Rattle.conncheck.specs.Texts.{judged_text, place_text, total_of, verdict_text};
+ghost use Rattle.conncheck.specs.Reads.{UnreadCause, UnreadEnds};
+ghost use Rattle.conncheck.specs.Reply.{report};
+ghost use Rattle.conncheck.specs.Seen.{said};
+ghost use Rattle.conncheck.specs.Texts.{total_of, verdict_text};
 ghost use Rattle.plain_form.specs.Names.{listed};
 ghost use Rattle.plain_form.specs.SeenTable.{seen_row};
 ghost use Rattle.plain_rows.specs.Seen.{seen_verdict};
 
+use crate::message::Message;
 use crate::reads::Unread;
 use crate::status::{Status, Stop};
-use crate::text::{fault_text, limit_text, line, log_text, row_text, total_text};
-use bits_core::File;
-use log_verdict::LogAnswer;
+use crate::text::{row_text, total_text};
 use plain_form::{Line, Names, Wires};
 use plain_rows::{Verdict, decide_row};
 use shelf_io::Sink;
 use std::alloc::Global;
-use vl_tree::{Code, Fault};
+use vl_tree::Code;
 
-pub fn say_bad_words<K: Sink>(out: &mut K) -> Result<Status, Stop>
-    ensures printed { Ends bad_words (K.taken out.old) (K.taken out.new) result }
+/// Says a message. Linear in its text.
+pub fn say<K: Sink>(alloc: Global, message: &Message<'_>, out: &mut K) -> Result<Status, Stop>
+    ensures printed { Ends (said message.now) (K.taken out.old) (K.taken out.new) result }
+    ensures kind { IsOfMessage message.now result }
     ensures cause { SinkCause (K.faults out.old) (K.faults out.new) result }
 {
-    out.write_all(b"BADWORDS\n")?;
-    Ok(Status::BadWords)
-}
-
-pub fn say_missing<K: Sink>(alloc: Global, name: &str, out: &mut K) -> Result<Status, Stop>
-    ensures printed { Ends (missing name.now) (K.taken out.old) (K.taken out.new) result }
-    ensures cause { SinkCause (K.faults out.old) (K.faults out.new) result }
-{
-    let text = line(alloc, b"READFAULT ", name.as_bytes())?;
+    let text = message.text(alloc)?;
     out.write_all(text.as_slice())?;
-    Ok(Status::ReadFault)
-}
-
-pub fn say_too_long<K: Sink>(out: &mut K) -> Result<Status, Stop>
-    ensures printed { Ends too_long (K.taken out.old) (K.taken out.new) result }
-    ensures cause { SinkCause (K.faults out.old) (K.faults out.new) result }
-{
-    out.write_all(b"LIMIT L01 FileBytes 16777216\n")?;
-    Ok(Status::Limit)
-}
-
-/// A fault of the sources, at its place.
-pub fn say_fault<K: Sink>(
-    alloc: Global,
-    files: &[File],
-    fault: &Fault,
-    out: &mut K,
-) -> Result<Status, Stop>
-    ensures printed { Ends (refused fault.now.code (place_text files.now fault.now.place)) (K.taken out.old) (K.taken out.new) result }
-    ensures kind { IsOfBytes result }
-    ensures cause { SinkCause (K.faults out.old) (K.faults out.new) result }
-{
-    let text = fault_text(alloc, files, fault)?;
-    out.write_all(text.as_slice())?;
-    Ok(Status::Refused)
-}
-
-/// A limit that is passed.
-pub fn say_limit<K: Sink>(alloc: Global, code: Code, out: &mut K) -> Result<Status, Stop>
-    ensures printed { Ends (limited code) (K.taken out.old) (K.taken out.new) result }
-    ensures kind { IsOfBytes result }
-    ensures cause { SinkCause (K.faults out.old) (K.faults out.new) result }
-{
-    let text = limit_text(alloc, code)?;
-    out.write_all(text.as_slice())?;
-    Ok(Status::Limit)
-}
-
-pub fn say_not_yet<K: Sink>(alloc: Global, name: &str, out: &mut K) -> Result<Status, Stop>
-    ensures printed { Ends (not_yet name.now) (K.taken out.old) (K.taken out.new) result }
-    ensures kind { IsOfBytes result }
-    ensures cause { SinkCause (K.faults out.old) (K.faults out.new) result }
-{
-    let text = line(alloc, b"REFUSED E00 NotYet\nAT ", name.as_bytes())?;
-    out.write_all(text.as_slice())?;
-    Ok(Status::Refused)
+    Ok(message.status())
 }
 
 /// Names the file whose read failed, or says that a file is too long.
@@ -90,25 +39,9 @@ pub fn say_unread<K: Sink>(alloc: Global, unread: Unread<'_>, out: &mut K) -> Re
     ensures cause { SinkCause (K.faults out.old) (K.faults out.new) result }
 {
     match unread {
-        Unread::Missing(name) => say_missing(alloc, name, out),
-        Unread::TooLong => say_too_long(out),
+        Unread::Missing(name) => say(alloc, &Message::Missing(name), out),
+        Unread::TooLong => say(alloc, &Message::Limit(Code::FileBytes), out),
         Unread::NoMemory => Err(Stop::Memory),
-    }
-}
-
-/// What a log comes to.
-pub fn say_log<K: Sink>(alloc: Global, answer: LogAnswer, out: &mut K) -> Result<Status, Stop>
-    ensures printed { Ends (logged answer) (K.taken out.old) (K.taken out.new) result }
-    ensures kind { IsOfBytes result }
-    ensures cause { SinkCause (K.faults out.old) (K.faults out.new) result }
-{
-    let text = log_text(alloc, answer)?;
-    out.write_all(text.as_slice())?;
-    match answer {
-        LogAnswer::Verified => Ok(Status::Done),
-        LogAnswer::Rejected(_) => Ok(Status::Findings),
-        LogAnswer::BadFormula(_) => Ok(Status::Refused),
-        LogAnswer::BadLog(_) => Ok(Status::Refused),
     }
 }
 

@@ -37,25 +37,6 @@ fn number_line(alloc: Global, word: &[u8], number: u64) -> Result<Vec<u8>, NoMem
     line(alloc, word, buffer.format(number).as_bytes())
 }
 
-// The number that a limit sets.
-fn limit_of(code: Code) -> u64
-    ensures { result ≡ spec.limit_of code }
-{
-    match code {
-        Code::FileBytes => 16_777_216,
-        Code::Tokens => 4_194_304,
-        Code::Scopes => 65_536,
-        Code::Weight => 4_194_304,
-        Code::Rows => 10_000,
-        Code::Conditions => 32,
-        Code::Latency => 64,
-        Code::Candidates => 65_536,
-        Code::Files => 1_024,
-        Code::Ports => 65_536,
-        _ => 0,
-    }
-}
-
 /// A limit that is passed.
 pub fn limit_text(alloc: Global, code: Code) -> Result<Vec<u8>, NoMemory>
     ensures { IfOk result (λ v. v.items ≡ spec.limit_text code) }
@@ -66,7 +47,7 @@ pub fn limit_text(alloc: Global, code: Code) -> Result<Vec<u8>, NoMemory>
     made.extend_from_slice(b" ")?;
     made.extend_from_slice(code.name())?;
     made.extend_from_slice(b" ")?;
-    made.extend_from_slice(buffer.format(limit_of(code)).as_bytes())?;
+    made.extend_from_slice(buffer.format(code.bound()).as_bytes())?;
     made.extend_from_slice(b"\n")?;
     Ok(made)
 }
@@ -96,19 +77,36 @@ fn place_text(alloc: Global, files: &[File], place: &Place) -> Result<Vec<u8>, N
     }
 }
 
+// A refusal: its code, and where it stands.
+fn refused_text(alloc: Global, code: Code, at: &[u8]) -> Result<Vec<u8>, NoMemory>
+    ensures { IfOk result (λ v. v.items ≡ spec.refused_text code at.now) }
+{
+    let mut made = Vec::from_slice(alloc, b"REFUSED ")?;
+    made.extend_from_slice(code.number())?;
+    made.extend_from_slice(b" ")?;
+    made.extend_from_slice(code.name())?;
+    made.extend_from_slice(b"\nAT ")?;
+    made.extend_from_slice(at)?;
+    made.extend_from_slice(b"\n")?;
+    Ok(made)
+}
+
 /// A fault and its place.
 pub fn fault_text(alloc: Global, files: &[File], fault: &Fault) -> Result<Vec<u8>, NoMemory>
     ensures { IfOk result (λ v. v.items ≡ spec.refused_text fault.now.code (spec.place_text files.now fault.now.place)) }
 {
     let place = place_text(alloc, files, &fault.place)?;
-    let mut made = Vec::from_slice(alloc, b"REFUSED ")?;
-    made.extend_from_slice(fault.code.number())?;
-    made.extend_from_slice(b" ")?;
-    made.extend_from_slice(fault.code.name())?;
-    made.extend_from_slice(b"\nAT ")?;
-    made.extend_from_slice(place.as_slice())?;
-    made.extend_from_slice(b"\n")?;
-    Ok(made)
+    refused_text(alloc, fault.code, place.as_slice())
+}
+
+// A refusal at a line of a text.
+fn numbered_text(alloc: Global, code: Code, at: u64) -> Result<Vec<u8>, NoMemory>
+    ensures { IfOk result (λ v. v.items ≡ spec.refused_text code (spec.numbered at)) }
+{
+    let mut buffer = Buffer::new();
+    let mut place = Vec::from_slice(alloc, b"line ")?;
+    place.extend_from_slice(buffer.format(at).as_bytes())?;
+    refused_text(alloc, code, place.as_slice())
 }
 
 /// What a log comes to.
@@ -118,8 +116,8 @@ pub fn log_text(alloc: Global, answer: LogAnswer) -> Result<Vec<u8>, NoMemory>
     match answer {
         LogAnswer::Verified => Ok(Vec::from_slice(alloc, b"VERIFIED\n")?),
         LogAnswer::Rejected(step) => number_line(alloc, b"REJECTED ", step),
-        LogAnswer::BadFormula(at) => number_line(alloc, b"REFUSED C17 BadDimacs\nAT line ", at),
-        LogAnswer::BadLog(at) => number_line(alloc, b"REFUSED C18 BadLrat\nAT line ", at),
+        LogAnswer::BadFormula(at) => numbered_text(alloc, Code::BadDimacs, at),
+        LogAnswer::BadLog(at) => numbered_text(alloc, Code::BadLrat, at),
     }
 }
 

@@ -1,35 +1,24 @@
-// The words of the command line.
-ghost use Rattle.std.specs.Prelude.{◌≡◌, None, map, option_map, string_bytes, IfOk, IfSome};
+// The words of a command line: options with their values, and the names of files behind them.
+ghost use Rattle.std.specs.Prelude.{◌≡◌, map, option_map, string_bytes, IfOk};
 ghost use Rattle.std.specs.List.{list_all};
-ghost use Rattle.conncheck.specs.Command as spec;
-ghost use Rattle.conncheck.specs.Words.{seen_check, seen_command, seen_given, seen_word};
+ghost use Rattle.conncheck.specs.Seen.{seen_line, seen_pair, seen_word};
+ghost use Rattle.conncheck.specs.Words as spec;
 
-use bits_core::{Items, NameList, NoMemory};
-use plain_form::pieces;
+use bits_core::NoMemory;
 use std::alloc::Global;
 
-/// The values of `check`.
-#[derive(Drop)]
-pub struct Check<'w> {
-    pub top: &'w str,
-    pub table: &'w str,
-    pub defines: NameList,
-    pub files: &'w [String],
-}
-
-/// A command with its values, or with the names of its files.
-#[derive(Drop)]
-pub enum Command<'w> {
-    Check(Check<'w>),
-    Lrat(&'w [String]),
-}
-
-/// The values of the options so far.
+/// An option with its value.
 #[derive(Clone, Copy)]
-pub struct Given<'w> {
-    pub top: Option<&'w str>,
-    pub table: Option<&'w str>,
-    pub define: Option<&'w str>,
+pub struct Pair<'w> {
+    pub option: &'w str,
+    pub value: &'w str,
+}
+
+/// The words behind a command's word.
+#[derive(Drop)]
+pub struct Line<'w> {
+    pub pairs: Vec<Pair<'w>>,
+    pub files: &'w [String],
 }
 
 // Whether a word may stand as a value or a file name.
@@ -53,174 +42,122 @@ fn are_plain(words: &[String]) -> bool
     true
 }
 
-fn are_macro_bytes(name: &[u8]) -> bool
-    ensures { result ≡ list_all spec.is_macro_byte name.now }
+/// The value that an option was given. Linear in the pairs.
+pub fn value_of<'w>(pairs: &[Pair<'w>], name: &str) -> Option<&'w str>
+    ensures { seen_word result ≡ spec.value_of (map seen_pair pairs.now) name.now }
 {
-    for byte in name {
-        if !byte.is_ascii_alphanumeric() && *byte != b'_' {
-            return false;
+    for pair in pairs {
+        if pair.option == name {
+            return Some(pair.value);
         }
     }
-    true
+    None
 }
 
-fn is_macro_name(name: &[u8]) -> bool
-    ensures { result ≡ spec.is_macro_name name.now }
+// Whether a command has an option of this name.
+fn is_among(names: &[&str], name: &str) -> bool
+    ensures { result ≡ spec.is_among (map (λ n. n.now) names.now) name.now }
 {
-    !name.is_empty() && are_macro_bytes(name)
-}
-
-// The names of a list, or none where one of them has another form. Linear in the list.
-fn read_names(alloc: Global, parts: &[&[u8]]) -> Result<Option<NameList>, NoMemory>
-    ensures { IfOk result (λ r. r ≡ spec.names_of (map (λ p. p.now) parts.now)) }
-{
-    let mut names = Items::new(alloc);
-    for part in parts {
-        if !is_macro_name(part) {
-            return Ok(None);
-        }
-        names.push(Items::of(Vec::from_slice(alloc, part)?))?;
-    }
-    Ok(Some(names))
-}
-
-fn read_defines(alloc: Global, list: Option<&str>) -> Result<Option<NameList>, NoMemory>
-    ensures { IfOk result (λ r. r ≡ spec.defines_of (seen_word list.entry)) }
-{
-    match list {
-        None => Ok(Some(Items::new(alloc))),
-        Some(list) => {
-            let parts = pieces(alloc, list.as_bytes(), b',')?;
-            read_names(alloc, parts.as_slice())
+    for other in names {
+        if name == *other {
+            return true;
         }
     }
+    false
 }
 
-// One option more, where it has no value yet.
-fn with_option<'w>(given: Given<'w>, name: &str, value: &'w str) -> Option<Given<'w>>
-    ensures { option_map seen_given result ≡ spec.with_option (seen_given given.entry) name.now value.entry.now }
+// An option that the command has and that was not given yet, with its value.
+fn takes(allowed: &[&str], pairs: &[Pair<'_>], name: &str, value: &str) -> bool
+    ensures { result ≡ spec.takes (map (λ n. n.now) allowed.now) (map seen_pair pairs.now) name.now value.now }
 {
-    let Given { top, table, define } = given;
-    let new = Some(value);
-    if name == "--top" {
-        match top {
-            None => Some(Given {
-                top: new,
-                table,
-                define,
-            }),
-            Some(_) => None,
-        }
-    } else if name == "--table" {
-        match table {
-            None => Some(Given {
-                top,
-                table: new,
-                define,
-            }),
-            Some(_) => None,
-        }
-    } else if name == "--define" {
-        match define {
-            None => Some(Given {
-                top,
-                table,
-                define: new,
-            }),
-            Some(_) => None,
-        }
-    } else {
-        None
-    }
+    is_plain(value) && is_among(allowed, name) && value_of(pairs, name).is_none()
 }
 
-// The options and the words behind them. Linear in the words.
-fn read_options<'w>(words: &'w [String]) -> Option<(Given<'w>, &'w [String])>
-    ensures files { IfSome result (λ p. spec.check_words (map string_bytes words.entry.now) ≡ spec.files_with (seen_given p.0) (map string_bytes p.1.now)) }
-    ensures none { result ≡ None → spec.check_words (map string_bytes words.entry.now) ≡ None }
+// The options with their values, and all words behind them.
+fn read_pairs<'w>(
+    alloc: Global,
+    allowed: &[&str],
+    words: &'w [String],
+) -> Result<Option<Line<'w>>, NoMemory>
+    ensures { IfOk result (λ r. spec.then_some (option_map seen_line r) (λ l. spec.files_behind l.pairs l.files) ≡ spec.line_of (map (λ n. n.now) allowed.now) (map string_bytes words.entry.now)) }
 {
-    let mut given = Given {
-        top: None,
-        table: None,
-        define: None,
-    };
+    let mut pairs = Vec::new(alloc);
     let mut rest = words;
     'options: loop {
-        let [name, value, tail @ ..] = rest else {
-            return Some((given, rest));
+        let [option, value, tail @ ..] = rest else {
+            return Ok(Some(Line { pairs, files: rest }));
         };
-        if is_plain(name.as_str()) {
-            return Some((given, rest));
+        let option = option.as_str();
+        let value = value.as_str();
+        if is_plain(option) {
+            return Ok(Some(Line { pairs, files: rest }));
         }
-        if !is_plain(value.as_str()) {
-            return None;
+        if !takes(allowed, pairs.as_slice(), option, value) {
+            return Ok(None);
         }
-        let Some(more) = with_option(given, name.as_str(), value.as_str()) else {
-            return None;
-        };
-        given = more;
+        pairs.push(Pair { option, value })?;
         rest = tail;
     }
 }
 
-fn check_of<'w>(
+/// The line that words spell for a command with these options, or none. Each option costs a look at those before it.
+pub fn read_line<'w>(
     alloc: Global,
-    given: Given<'w>,
-    files: &'w [String],
-) -> Result<Option<Command<'w>>, NoMemory>
-    ensures { IfOk result (λ r. option_map seen_command r ≡ spec.files_with (seen_given given.entry) (map string_bytes files.entry.now)) }
+    allowed: &[&str],
+    words: &'w [String],
+) -> Result<Option<Line<'w>>, NoMemory>
+    ensures { IfOk result (λ r. option_map seen_line r ≡ spec.line_of (map (λ n. n.now) allowed.now) (map string_bytes words.entry.now)) }
 {
-    let Some(top) = given.top else {
+    let Some(line) = read_pairs(alloc, allowed, words)? else {
         return Ok(None);
     };
-    let Some(table) = given.table else {
-        return Ok(None);
-    };
-    let Some(defines) = read_defines(alloc, given.define)? else {
-        return Ok(None);
-    };
-    if files.is_empty() || !are_plain(files) {
+    if !are_plain(line.files) {
         return Ok(None);
     }
-    Ok(Some(Command::Check(Check {
-        top,
-        table,
-        defines,
-        files,
-    })))
+    Ok(Some(line))
 }
 
-// The words behind `check`.
-fn read_check<'w>(alloc: Global, words: &'w [String]) -> Result<Option<Command<'w>>, NoMemory>
-    ensures { IfOk result (λ r. option_map seen_command r ≡ spec.check_words (map string_bytes words.entry.now)) }
-{
-    match read_options(words) {
-        Some((given, files)) => check_of(alloc, given, files),
-        None => Ok(None),
+// The first word that is no file name.
+fn wrong_file(words: &[String]) -> Option<&str> {
+    for word in words {
+        if !is_plain(word.as_str()) {
+            return Some(word.as_str());
+        }
     }
+    None
 }
 
-// The words behind `lrat`.
-fn read_lrat<'w>(files: &'w [String]) -> Option<Command<'w>>
-    ensures { option_map seen_command result ≡ spec.lrat_words (map string_bytes files.entry.now) }
-{
-    if (files.len() == 1 || files.len() == 2) && are_plain(files) {
-        Some(Command::Lrat(files))
-    } else {
-        None
+// Whether an option of this name stands in the words.
+fn stands_in(words: &[String], option: &str) -> bool {
+    for word in words {
+        if word.as_str() == option {
+            return true;
+        }
     }
+    false
 }
 
-/// The command that the words spell, or none. Linear in the words.
-pub fn read_words<'w>(alloc: Global, words: &'w [String]) -> Result<Option<Command<'w>>, NoMemory>
-    ensures { IfOk result (λ r. option_map seen_command r ≡ spec.command (map string_bytes words.entry.now)) }
-{
-    let [command, rest @ ..] = words else {
-        return Ok(None);
-    };
-    match command.as_str() {
-        "check" => read_check(alloc, rest),
-        "lrat" => Ok(read_lrat(rest)),
-        _ => Ok(None),
+/// The first word that has no place in a line of a command with these options, where one has none.
+pub fn wrong_in<'w>(allowed: &[&str], words: &'w [String]) -> Option<&'w str> {
+    let mut rest = words;
+    'options: loop {
+        let [option, behind @ ..] = rest else {
+            return None;
+        };
+        let option = option.as_str();
+        if is_plain(option) {
+            return wrong_file(rest);
+        }
+        let before = &words[..words.len() - rest.len()];
+        if !is_among(allowed, option) || stands_in(before, option) {
+            return Some(option);
+        }
+        let [value, tail @ ..] = behind else {
+            return Some(option);
+        };
+        if !is_plain(value.as_str()) {
+            return Some(value.as_str());
+        }
+        rest = tail;
     }
 }

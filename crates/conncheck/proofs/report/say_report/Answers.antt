@@ -7,11 +7,11 @@ use Rattle.plain_form.specs.declared.wires.Slot.{Slot}
 use Rattle.plain_rows.specs.Plain.{verdict_of}
 use Rattle.plain_rows.specs.Verdicts.{Verdict}
 use Rattle.conncheck.specs.Ends.{Adds}
-use Rattle.conncheck.specs.Outcome.{report}
 use Rattle.conncheck.specs.Texts.{total_text, total_of, verdict_text}
 use Rattle.conncheck.proofs.PrintLaws as laws
 use Rattle.conncheck.proofs.ReportLaws as rep
 use Rattle.conncheck.proofs.report.say_report.Goals as goal
+use Rattle.conncheck.specs.Reply.{report}
 
 pub returns-in_err-say_row-clause-printed : goal.returns-in_err-say_row-clause-printed
 returns-in_err-say_row-clause-printed g c =

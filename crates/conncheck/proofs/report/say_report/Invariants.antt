@@ -3,9 +3,9 @@ use Rattle.std.specs.Io.KnownBytes.{Appends}
 use Rattle.plain_form.specs.Names.{listed}
 use Rattle.plain_form.specs.SeenTable.{seen_row}
 use Rattle.conncheck.specs.Judge.{judge}
-use Rattle.conncheck.specs.Outcome.{joined}
 use Rattle.conncheck.specs.Texts.{judged_text, was_proved}
 use Rattle.conncheck.proofs.report.say_report.Given as goal
+use Rattle.conncheck.specs.Reply.{joined}
 
 abbrev pub invariant-loop-row : goal.invariant-loop-row
 invariant-loop-row g l = record {

@@ -1,6 +1,6 @@
 use Rattle.std.proofs.Common.{◌≡◌, drop, map, string_bytes}
 use Rattle.std.specs.List.{list_all}
-use Rattle.conncheck.specs.Command as spec
+use Rattle.conncheck.specs.Words as spec
 use Rattle.conncheck.proofs.words.are_plain.Given as goal
 
 abbrev pub invariant-loop-word : goal.invariant-loop-word

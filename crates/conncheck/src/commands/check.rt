@@ -1,0 +1,229 @@
+// `check`: the rows of a table over sources.
+ghost use Rattle.std.specs.Prelude.{◌≡◌, ◌++◌, ◌∷◌, ◌+◌, ◌<◌, ◌≤◌, ◌^◌, [], IfOk, IfSome, length, map, option_map, string_bytes};
+ghost use Rattle.std.specs.List.{list_all};
+ghost use Rattle.conncheck.specs.Ends.{EndsBy, EndsFor, IsNoBadWords, IsOfBytes, ShelfCause, SinkCause};
+ghost use Rattle.conncheck.specs.Seen.{seen_check, seen_line, seen_word};
+ghost use Rattle.conncheck.specs.commands.Check as spec;
+
+use crate::message::Message;
+use crate::reads::{read_each, read_one};
+use crate::report::{say, say_report, say_unread};
+use crate::status::{Status, Stop};
+use crate::words::{Line, read_line, value_of};
+use bits_core::{File, Items, NameList, NoMemory};
+use plain_form::{pieces, read_rows, read_source};
+use shelf_io::{Shelf, Sink};
+use std::alloc::Global;
+use std::str;
+use vl_lex::{Files, Walk, preprocess};
+use vl_tree::{Code, Token};
+
+pub const OPTIONS: [&str; 3] = ["--top", "--table", "--define"];
+
+/// The values of the command.
+#[derive(Drop)]
+pub struct Check<'w> {
+    pub top: &'w str,
+    pub table: &'w str,
+    pub defines: NameList,
+    pub files: &'w [String],
+}
+
+fn are_macro_bytes(name: &[u8]) -> bool
+    ensures { result ≡ list_all spec.is_macro_byte name.now }
+{
+    for byte in name {
+        if !byte.is_ascii_alphanumeric() && *byte != b'_' {
+            return false;
+        }
+    }
+    true
+}
+
+fn is_macro_name(name: &[u8]) -> bool
+    ensures { result ≡ spec.is_macro_name name.now }
+{
+    !name.is_empty() && are_macro_bytes(name)
+}
+
+// The names of a list, or none where one of them has another form. Linear in the list.
+fn read_names(alloc: Global, parts: &[&[u8]]) -> Result<Option<NameList>, NoMemory>
+    ensures { IfOk result (λ r. r ≡ spec.names_of (map (λ p. p.now) parts.now)) }
+{
+    let mut names = Items::new(alloc);
+    for part in parts {
+        if !is_macro_name(part) {
+            return Ok(None);
+        }
+        names.push(Items::of(Vec::from_slice(alloc, part)?))?;
+    }
+    Ok(Some(names))
+}
+
+fn read_defines(alloc: Global, list: Option<&str>) -> Result<Option<NameList>, NoMemory>
+    ensures { IfOk result (λ r. r ≡ spec.defines_of (seen_word list.entry)) }
+{
+    match list {
+        None => Ok(Some(Items::new(alloc))),
+        Some(list) => {
+            let parts = pieces(alloc, list.as_bytes(), b',')?;
+            read_names(alloc, parts.as_slice())
+        }
+    }
+}
+
+// The values that a line gives, or none.
+fn values_of<'w>(alloc: Global, line: &Line<'w>) -> Result<Option<Check<'w>>, NoMemory>
+    ensures { IfOk result (λ r. option_map seen_check r ≡ spec.values_of (seen_line line.now)) }
+{
+    let pairs = line.pairs.as_slice();
+    let Some(top) = value_of(pairs, "--top") else {
+        return Ok(None);
+    };
+    let Some(table) = value_of(pairs, "--table") else {
+        return Ok(None);
+    };
+    let Some(defines) = read_defines(alloc, value_of(pairs, "--define"))? else {
+        return Ok(None);
+    };
+    if line.files.is_empty() {
+        return Ok(None);
+    }
+    Ok(Some(Check {
+        top,
+        table,
+        defines,
+        files: line.files,
+    }))
+}
+
+/// The values that the words spell, or none.
+pub fn read<'w>(alloc: Global, words: &'w [String]) -> Result<Option<Check<'w>>, NoMemory>
+    ensures { IfOk result (λ r. option_map seen_check r ≡ spec.values (map string_bytes words.entry.now)) }
+{
+    match read_line(alloc, OPTIONS.as_slice(), words)? {
+        Some(line) => values_of(alloc, &line),
+        None => Ok(None),
+    }
+}
+
+fn first_of(names: &[String]) -> &str
+    ensures { result.now ≡ spec.first_of (map string_bytes names.now) }
+{
+    match names {
+        [] => "",
+        [first, ..] => first.as_str(),
+    }
+}
+
+// The report over the bytes of the table and the tokens of the sources, or the refusal of the first of them that is not plain: the sources come first.
+fn say_check<K: Sink>(
+    alloc: Global,
+    command: &Check<'_>,
+    table: &[u8],
+    tokens: &[Token<'_>],
+    out: &mut K,
+) -> Result<Status, Stop>
+    ensures sink { SinkCause (K.faults out.old) (K.faults out.new) result }
+    ensures kind { IsOfBytes result }
+    ensures answer { EndsBy (spec.OfWords (seen_check command.now) table.now (map (λ t. t.text.now) tokens.now)) (K.taken out.old) (K.taken out.new) result }
+{
+    let top = command.top.as_bytes();
+    let Some(wires) = read_source(alloc, top, tokens)? else {
+        return say(alloc, &Message::NotYet(first_of(command.files)), out);
+    };
+    let Some(rows) = read_rows(alloc, &wires.names, top, table)? else {
+        return say(alloc, &Message::NotYet(command.table), out);
+    };
+    say_report(alloc, top, &wires, rows.as_slice(), out)
+}
+
+// One file more behind the others.
+fn with_file(read: Files, file: File) -> Result<Files, NoMemory>
+    requires few { length read.list + 1 < 2 ^ 32 }
+    requires small { length file.bytes ≤ 2 ^ 24 }
+    ensures list { IfOk result (λ r. r.list ≡ read.list ++ file ∷ []) }
+    ensures named { IfOk result (λ r. r.named ≡ read.named) }
+{
+    let Files { mut list, named } = read;
+    list.push(file)?;
+    Ok(Files { list, named })
+}
+
+// The walk over the files that were read. A file that it asks for is read, and the walk begins anew; so many files may be read on the way.
+fn walk_from<H: Shelf, K: Sink>(
+    alloc: Global,
+    command: &Check<'_>,
+    table: &[u8],
+    read: Files,
+    left: usize,
+    shelf: &mut H,
+    out: &mut K,
+) -> Result<Status, Stop>
+    requires { length read.list + left < 2 ^ 32 }
+    ensures shelf { ShelfCause (H.faults shelf.old) (H.faults shelf.new) result }
+    ensures sink { SinkCause (K.faults out.old) (K.faults out.new) result }
+    ensures words { IsNoBadWords result }
+    ensures answer { IfSome (H.tells shelf.old) (λ files. EndsFor (H.is_steady shelf.old) (spec.OfWalk left (seen_check command.now) table.now read.named read.list) files (K.taken out.old) (K.taken out.new) result) }
+{
+    let name = match preprocess(alloc, &read, &command.defines) {
+        Ok(Walk::Tokens(tokens)) => {
+            return say_check(alloc, command, table, tokens.as_slice(), out);
+        }
+        Ok(Walk::Need(name)) => name,
+        Err(vl_tree::Stop::Fault(fault)) => {
+            return say(alloc, &Message::Fault(read.list.as_slice(), &fault), out);
+        }
+        Err(vl_tree::Stop::Limit(code)) => return say(alloc, &Message::Limit(code), out),
+        Err(vl_tree::Stop::NoMemory) => return Err(Stop::Memory),
+    };
+    if left == 0 {
+        return say(alloc, &Message::Limit(Code::Files), out);
+    }
+    let text = str::from_utf8(name.as_slice()).unwrap();
+    let file = match read_one(alloc, text, shelf) {
+        Ok(file) => file,
+        Err(unread) => return say_unread(alloc, unread, out),
+    };
+    match with_file(read, file) {
+        Ok(more) => walk_from(alloc, command, table, more, left - 1, shelf, out),
+        Err(NoMemory) => Err(Stop::Memory),
+    }
+}
+
+/// The table is read first, then the sources in order, then what they include. Linear in the files, which are walked once more for each file
+/// that is included.
+pub fn answer<H: Shelf, K: Sink>(
+    alloc: Global,
+    command: &Check<'_>,
+    shelf: &mut H,
+    out: &mut K,
+) -> Result<Status, Stop>
+    ensures shelf { ShelfCause (H.faults shelf.old) (H.faults shelf.new) result }
+    ensures sink { SinkCause (K.faults out.old) (K.faults out.new) result }
+    ensures words { IsNoBadWords result }
+    ensures answer { IfSome (H.tells shelf.old) (λ files. EndsFor (H.is_steady shelf.old) (spec.Means (seen_check command.now)) files (K.taken out.old) (K.taken out.new) result) }
+{
+    let table = match read_one(alloc, command.table, shelf) {
+        Ok(file) => file,
+        Err(unread) => return say_unread(alloc, unread, out),
+    };
+    let list = match read_each(alloc, command.files, shelf) {
+        Ok(list) => list,
+        Err(unread) => return say_unread(alloc, unread, out),
+    };
+    let most = Code::Files.bound() as usize;
+    if list.len() > most {
+        return say(alloc, &Message::Limit(Code::Files), out);
+    }
+    let named = list.len();
+    walk_from(
+        alloc,
+        command,
+        table.bytes.as_slice(),
+        Files { list, named },
+        most,
+        shelf,
+        out,
+    )
+}
