@@ -4,7 +4,7 @@
 mod real_shelf;
 mod real_sink;
 
-use conncheck::{Status, run};
+use conncheck::{Status, run, wrong_word};
 use real_shelf::RealShelf;
 use real_sink::RealSink;
 use std::alloc::Global;
@@ -23,6 +23,24 @@ fn words_after_name(rt: &HostRuntime, alloc: Global) -> Option<Vec<String>> {
     }
 }
 
+// Says on standard error which word is wrong. That this can't be written is passed over.
+fn tell_words(rt: &HostRuntime, words: &[String]) {
+    let _ = match wrong_word(words) {
+        Some(word) => eprintln!(rt; "conncheck: no place for the word '{word}'"),
+        None => eprintln!(rt;
+            "conncheck: an option or a file is missing, or a list of macros has another form"
+        ),
+    };
+    let _ = eprintln!(rt; "{USAGE}");
+}
+
+// Says on standard error why a file could not be read.
+fn tell_reason(rt: &HostRuntime, reason: Option<io::Error>) {
+    if let Some(reason) = reason {
+        let _ = eprintln!(rt; "conncheck: {reason}");
+    }
+}
+
 fn main(rt: HostRuntime) -> ExitCode {
     let alloc = rt.alloc();
     let Some(words) = words_after_name(&rt, alloc) else {
@@ -31,8 +49,10 @@ fn main(rt: HostRuntime) -> ExitCode {
     let mut shelf = RealShelf::new(&rt);
     let mut sink = RealSink::new(&rt);
     let status = run(alloc, words.as_slice(), &mut shelf, &mut sink);
-    if status == Status::BadWords {
-        let _ = eprintln!(rt; "{USAGE}");
+    match status {
+        Status::BadWords => tell_words(&rt, words.as_slice()),
+        Status::ReadFault => tell_reason(&rt, shelf.reason()),
+        _ => {}
     }
     ExitCode::from(status.code())
 }

@@ -1,43 +1,79 @@
 // Files of the system.
-ghost use Rattle.std.specs.Prelude.{◌≡◌, None};
+ghost use Rattle.std.specs.Prelude.{◌≡◌, ◌<◌, None, IfOk, length};
 ghost use Rattle.shelf_io.specs.Cause.{Rose};
 ghost use Rattle.conncheck_cli.specs.ReadsUpTo.{ReadsUpTo};
 
 use shelf_io::{Shelf, ShelfError};
-use std::alloc::Global;
-use std::fs;
+use std::alloc::{AllocError, Global};
 use std::io::Read;
 use std::rt::Files;
+use std::{fs, io};
+
+// How much of a file is asked for at a time.
+const TURN: usize = 65_536;
 
 /// The files of the system, from the folder of the run. What they hold is not told.
 #[derive(Drop)]
 pub struct RealShelf<'a, R: Files> {
     rt: &'a R,
     faults: u64,
+    reason: Option<io::Error>,
 }
 
 impl<'a, R: Files> RealShelf<'a, R> {
     /// Takes no memory.
     pub fn new(rt: &'a R) -> RealShelf<'a, R> {
-        RealShelf { rt, faults: 0 }
+        RealShelf {
+            rt,
+            faults: 0,
+            reason: None,
+        }
     }
 
-    // Counts a fault.
-    fn fail(&mut self) -> ShelfError
+    /// Why the last read that failed did so. Takes no memory.
+    pub fn reason(&self) -> Option<io::Error> {
+        self.reason
+    }
+
+    // Counts a fault, and keeps its reason.
+    fn fail(&mut self, reason: io::Error) -> ShelfError
         ensures result { result ≡ ShelfError.Failed }
         ensures rose { Rose self.old.faults self.new.faults }
     {
         self.faults = self.faults.saturating_add(1);
+        self.reason = Some(reason);
         ShelfError::Failed
     }
 }
 
-// Reads a file to its end, or one byte further than `most`.
-fn read_up_to<F: Read>(alloc: Global, file: &mut F, most: usize) -> Result<Vec<u8>, ShelfError>
+/// Why a file was not read to its end.
+enum Unread {
+    Failed(io::Error),
+    TooLong,
+    NoMemory,
+}
+
+impl From<AllocError> for Unread {
+    ghost use Rattle.conncheck_cli.specs.declared.real_shelf.Unread.TheVariants.{NoMemory};
+
+    ghost from_gives = { λ _ e. e ≡ NoMemory };
+
+    fn from(_: AllocError) -> Unread {
+        Unread::NoMemory
+    }
+}
+
+// Reads a file to its end, or one byte further than `most`, as much at a time as the buffer takes.
+fn read_by<F: Read>(
+    alloc: Global,
+    file: &mut F,
+    most: usize,
+    buffer: &mut [u8],
+) -> Result<Vec<u8>, Unread>
+    requires { 0 < length buffer.now }
     ensures { ReadsUpTo (λ b. b.items) most (F.remaining file.old) result }
 {
     let mut bytes = Vec::new(alloc);
-    let mut buffer = [0u8; 4096];
     'turns: loop {
         let room = most - bytes.len();
         let want = if room < buffer.len() {
@@ -45,17 +81,32 @@ fn read_up_to<F: Read>(alloc: Global, file: &mut F, most: usize) -> Result<Vec<u
         } else {
             buffer.len()
         };
-        let Ok(count) = file.read(&mut buffer[..want]) else {
-            return Err(ShelfError::Failed);
+        let count = match file.read(&mut buffer[..want]) {
+            Ok(count) => count,
+            Err(reason) => return Err(Unread::Failed(reason)),
         };
         if count == 0 {
             return Ok(bytes);
         }
         if count > room {
-            return Err(ShelfError::TooLong);
+            return Err(Unread::TooLong);
         }
         bytes.extend_from_slice(&buffer[..count])?;
     }
+}
+
+// So many bytes of 0.
+fn zeros(alloc: Global, len: usize) -> Result<Vec<u8>, AllocError>
+    ensures { IfOk result (λ b. length b.items ≡ len) }
+{
+    vec![in alloc; 0u8; len]
+}
+
+fn read_up_to<F: Read>(alloc: Global, file: &mut F, most: usize) -> Result<Vec<u8>, Unread>
+    ensures { ReadsUpTo (λ b. b.items) most (F.remaining file.old) result }
+{
+    let mut buffer = zeros(alloc, TURN)?;
+    read_by(alloc, file, most, buffer.as_mut_slice())
 }
 
 impl<R: Files> Shelf for RealShelf<'_, R> {
@@ -69,12 +120,15 @@ impl<R: Files> Shelf for RealShelf<'_, R> {
 
     /// Reads at most `most + 1` bytes, each turn at least one.
     fn read(&mut self, alloc: Global, name: &str, most: usize) -> Result<Vec<u8>, ShelfError> {
-        let Ok(mut file) = fs::open(self.rt, name) else {
-            return Err(self.fail());
+        let mut file = match fs::open(self.rt, name) {
+            Ok(file) => file,
+            Err(reason) => return Err(self.fail(reason)),
         };
         match read_up_to(alloc, &mut file, most) {
-            Err(ShelfError::Failed) => Err(self.fail()),
-            other => other,
+            Ok(bytes) => Ok(bytes),
+            Err(Unread::Failed(reason)) => Err(self.fail(reason)),
+            Err(Unread::TooLong) => Err(ShelfError::TooLong),
+            Err(Unread::NoMemory) => Err(ShelfError::NoMemory),
         }
     }
 }
@@ -97,6 +151,7 @@ mod tests {
         assert_eq!(rt; shelf.faults, 0);
         assert!(rt; shelf.read(alloc, "missing.txt", 10).err() == Some(ShelfError::Failed));
         assert_eq!(rt; shelf.faults, 1);
+        assert!(rt; shelf.reason().is_some());
         Ok(())
     }
 }

@@ -1,6 +1,6 @@
 use Rattle.std.proofs.Common.{◌≤◌, ◌-◌, length}
 use Rattle.std.specs.Io.KnownBytes.{Consumes}
-use Rattle.conncheck_cli.proofs.real_shelf.read_up_to.Given as goal
+use Rattle.conncheck_cli.proofs.real_shelf.read_by.Given as goal
 
 abbrev pub decreases-turns : goal.decreases-turns
 decreases-turns g l = l.most - length l.bytes.items
