@@ -16,7 +16,7 @@ use Rattle.sat_core.specs.Trail.{assigned, IsDecision, Reason, IsTrail}
 use Rattle.sat_core.proofs.StandingLaws.{give_same, give_other}
 use Rattle.sat_core.proofs.RestLaws.{none_before, some_none}
 
-all_false : (a : Values) (c : List Lit) → Each (λ l. is_false a l ≡ true) c → standing_of a c ≡ Falsified
+pub all_false : (a : Values) (c : List Lit) → Each (λ l. is_false a l ≡ true) c → standing_of a c ≡ Falsified
 all_false a [] h = refl
 all_false a (l ∷ ls) h = ap (λ (b : Bool). fold (meet a) (cond b Falsified (UnitAt l)) ls) h.0 ∙ all_false a ls h.1
 

@@ -1,5 +1,5 @@
 -- What a learned clause is: its decisions, the closed values before the newest one.
-use Rattle.std.proofs.Common.{◌≡◌, ℕ, ◌≤◌, ◌<◌, Bool, true, false, cond, eqb, List, [], ◌∷◌, ◌++◌, refl, sym, ap, subst, ◌∙◌, Option, Some, None, inl, inr, ◌⊎◌, ℤ, zero, suc, arith}
+use Rattle.std.proofs.Common.{◌≡◌, ℕ, ◌≤◌, ◌<◌, Bool, true, false, cond, eqb, List, [], ◌∷◌, ◌++◌, refl, sym, ap, subst, ◌∙◌, Option, Some, None, inl, inr, ◌⊎◌, ℤ, zero, suc, arith, get_or, length}
 use Rattle.std.specs.List.{fold}
 use Rattle.std.proofs.lemmas.Bool.{cases_eq, false≢true, cond-true, eqb-true, cases_lt, and_from, eq-eqb}
 use Rattle.std.proofs.lemmas.Option.{some_pair_parts}
@@ -94,7 +94,7 @@ within_denied s a (l ∷ ls) h w =
           (λ e. ap a (eqb-true _ _ e) ∙ denies_given (is_positive l) (a (variable_of l)) h.0) (w.at x v) is;
     })
 
-decided_false : (leaves : ℕ) (a : Values) (l : Lit) → IsDecided leaves a l → is_false a l ≡ true
+pub decided_false : (leaves : ℕ) (a : Values) (l : Lit) → IsDecided leaves a l → is_false a l ≡ true
 decided_false leaves a l d = ap (denies (is_positive l)) d.off ∙ ap (λ (p : Bool). not (beq false p)) d.positive
 
 -- the decisions before the newest one, and that one
@@ -108,10 +108,10 @@ record Shape (cs : List (List Lit)) (c : List Lit) (d : Lit) (ms : List Mark) : 
   taken : Bool
   is : c ≡ (noted_if taken d zero (rests cs need ms)).clause
 
-some_pair : (l d : Lit) (xs ys : List Mark) → ◌≡◌ {A = Option (Lit × List Mark)} (Some (l, xs)) (Some (d, ys)) → (l ≡ d) × (xs ≡ ys)
+pub some_pair : (l d : Lit) (xs ys : List Mark) → ◌≡◌ {A = Option (Lit × List Mark)} (Some (l, xs)) (Some (d, ys)) → (l ≡ d) × (xs ≡ ys)
 some_pair l d xs ys e = some_pair_parts l d xs ys e
 
-same_clause : (b : Bool) (l : Lit) (r : ℕ) (rest : Rests) → (noted_if b l (suc r) rest).clause ≡ rest.clause
+pub same_clause : (b : Bool) (l : Lit) (r : ℕ) (rest : Rests) → (noted_if b l (suc r) rest).clause ≡ rest.clause
 same_clause true l r rest = refl
 same_clause false l r rest = refl
 
@@ -119,17 +119,22 @@ snoc_not_nil : (c : List Lit) (l : Lit) → c ++ l ∷ [] ≡ [] → ⊥
 snoc_not_nil [] l e = cc
 snoc_not_nil (k ∷ ks) l e = cc
 
-among_last : (c : List Lit) (l : Lit) → Among l (c ++ l ∷ [])
+pub among_last : (c : List Lit) (l : Lit) → Among l (c ++ l ∷ [])
 among_last [] l = inl refl
 among_last (k ∷ ks) l = inr (among_last ks l)
 
-each_among : (P : Lit → Type 0) (c : List Lit) (l : Lit) → Each P c → Among l c → P l
+pub each_among : (P : Lit → Type 0) (c : List Lit) (l : Lit) → Each P c → Among l c → P l
 each_among P [] l h m = absurd m
 each_among P (k ∷ ks) l h (inl e) = subst P (sym e) h.0
 each_among P (k ∷ ks) l h (inr m) = each_among P ks l h.1 m
 
+pub among_at : (c : List Lit) (i : ℕ) (l : Lit) → i < length c → l ≡ get_or c i l → Among l c
+among_at [] i l h e = absurd (omega arith)
+among_at (k ∷ ks) zero l h e = inl e
+among_at (k ∷ ks) (suc i) l h e = inr (among_at ks i l (omega arith) e)
+
 -- under the closed values of c, a clause within c is falsified, or unit at the greatest literal
-abbrev Stands : Lit → Standing → Type 0
+abbrev pub Stands : Lit → Standing → Type 0
 Stands g s = (s ≡ Falsified) ⊎ (s ≡ UnitAt g)
 
 beq_same : (b : Bool) → beq b b ≡ true
@@ -148,7 +153,7 @@ stands_meet a g l s true e h st = st
 stands_meet a g l s false e (inl h) st = inr (stands_joined g l s h st)
 stands_meet a g l s false e (inr h) st = absurd (false≢true (sym e ∙ h))
 
-stands_fold : (a : Values) (g : Lit) (s : Standing) (c : List Lit) → Each (λ l. (l ≡ g) ⊎ (is_false a l ≡ true)) c → Stands g s → Stands g (fold (meet a) s c)
+pub stands_fold : (a : Values) (g : Lit) (s : Standing) (c : List Lit) → Each (λ l. (l ≡ g) ⊎ (is_false a l ≡ true)) c → Stands g s → Stands g (fold (meet a) s c)
 stands_fold a g s [] h st = st
 stands_fold a g s (l ∷ ls) h st = stands_fold a g (meet a s l) ls h.1 (stands_meet a g l s (is_false a l) refl h.0 st)
 

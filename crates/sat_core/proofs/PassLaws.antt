@@ -58,7 +58,7 @@ unit_open : (a : Values) (s : Standing) (c : List Lit) (l : Lit) → fold (meet 
 unit_open a s [] l h f = f l h
 unit_open a s (k ∷ ks) l h f = unit_open a (meet a s k) ks l h (unit_open_step a s k l (is_false a k) refl f)
 
-unit_not_false : (a : Values) (c : List Lit) (l : Lit) → standing_of a c ≡ UnitAt l → is_false a l ≡ false
+pub unit_not_false : (a : Values) (c : List Lit) (l : Lit) → standing_of a c ≡ UnitAt l → is_false a l ≡ false
 unit_not_false a c l h = unit_open a Falsified c l h (λ j e. absurd cc)
 
 marks_fit_more : (values values' : List (Option Bool)) (marks marks' : List Mark) (m : Mark) (x : ℕ) (o : Option Bool) → marks' ≡ marks ++ m ∷ [] → values' ≡ set values x o → All (λ i. variable_of i.lit < length values) marks → variable_of m.lit < length values → All (λ i. variable_of i.lit < length values') marks'

@@ -15,7 +15,7 @@ use Rattle.sat_core.specs.Trail.{assigned, IsTrail, before_decision}
 use Rattle.cnf_core.specs.Learned.{Each, IsLeafLit, HasClosed, HoldsNone, IsLearned, RefutesWithin}
 use Rattle.sat_core.specs.Rests.{has_variable, rests}
 use Rattle.sat_core.specs.Round.{ClosedIf}
-use Rattle.sat_core.specs.Solved.{learned_clauses, StepOk, IsAnalysed, InOrder, Ready, InRange, as_true, value_at}
+use Rattle.sat_core.specs.Solved.{learned_clauses, StepOk, IsAnalysed, IsTraced, InOrder, Ready, InRange, as_true, value_at}
 use Rattle.cnf_core.specs.Lit.{variable_of, is_positive}
 use mathlib.Core.Bool.{beq}
 use Rattle.cnf_core.specs.Model.{IsModel, clause_true}
@@ -285,3 +285,28 @@ in_range n (c ∷ cs) above fit = (
   each_in_range n c (above 0 c (omega arith)) (fit 0 c (omega arith)),
   in_range n cs (All-tail (All (λ (k : Lit). 1 ≤ variable_of k)) c cs above) (All-tail (Fits (n + 1)) c cs fit),
 )
+
+-- one more step keeps the ids in order
+pub in_order_more : (last : ℕ) (log : List Step) (id : ℕ) (c : List Lit) (hints : List ℤ) → InOrder last log → id ≡ last + length log + 1 → InOrder last (log ++ Add id c hints ∷ [])
+in_order_more last [] id c hints o e = (omega arith, tt)
+in_order_more last (Delete ids ∷ steps) id c hints o e = absurd o
+in_order_more last (Add i d hs ∷ steps) id c hints o e = (o.0, in_order_more (last + 1) steps id c hints o.1 (omega arith))
+
+-- the empty clause ends a log
+pub refuted_in_order : (cs clauses : List (List Lit)) (leaves budget : ℕ) (log log' : List Step) (c : List Lit) (hints : List ℤ) (n : ℕ) → Ready cs clauses leaves log → is_implied (numbered clauses) c hints ≡ true → c ≡ [] → length log ≤ budget → length clauses ≡ length cs + length log → n ≡ length clauses → log' ≡ log ++ Add (n + 1) c hints ∷ [] → RefutesWithin cs leaves budget log' × InOrder (length cs) log'
+refuted_in_order cs clauses leaves budget log log' c hints n r t empty few count is e = (
+  refuted_within cs clauses leaves budget log log' c hints r t empty few (e ∙ ap (λ (k : ℕ). log ++ Add (k + 1) c hints ∷ []) is),
+  subst (InOrder (length cs)) (sym e) (in_order_more (length cs) log (n + 1) c hints r.order (omega arith)),
+)
+
+pub ready_start : (cs clauses : List (List Lit)) (leaves : ℕ) → clauses ≡ cs → Ready cs clauses leaves []
+ready_start cs clauses leaves e = record { are = e ∙ sym (append-nil cs); learned = tt; order = tt; implied = λ w m. subst (IsModel w) (sym e) m }
+
+-- a clause falsified before any decision refutes
+pub refuted_at_start : (cs clauses : List (List Lit)) (leaves budget : ℕ) (log log' : List Step) (c : List Lit) (hints : List ℤ) (n : ℕ) → clauses ≡ cs → log ≡ [] → is_implied (numbered clauses) c hints ≡ true → c ≡ [] → n ≡ length clauses → log' ≡ log ++ Add (n + 1) c hints ∷ [] → RefutesWithin cs leaves budget log' × InOrder (length cs) log'
+refuted_at_start cs clauses leaves budget log log' c hints n ce le t empty is e =
+    refuted_in_order cs clauses leaves budget [] log' c hints n (ready_start cs clauses leaves ce) t empty (omega arith) (omega (arith, ap length ce)) is
+    (e ∙ ap (λ (l : List Step). l ++ Add (n + 1) c hints ∷ []) le)
+
+pub traced_nil : (cs : List (List Lit)) (marks : List Mark) (c : List Lit) → IsTraced cs marks c → before_decision (reverse marks) ≡ None → c ≡ []
+traced_nil cs marks c t e = t.is ∙ no_decision cs t.need (reverse marks) e

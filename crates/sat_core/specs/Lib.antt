@@ -3,3 +3,7 @@ pub mod Rests
 pub mod Sync
 pub mod Round
 pub mod Solved
+pub mod Jump
+pub mod Learn
+pub mod Watch
+pub mod Looks

@@ -1,17 +1,15 @@
 -- What the solver's answers say.
-use Rattle.std.specs.Prelude.{Option, Some, None, ◌≡◌, ℕ, ◌+◌, ◌-◌, ◌≤◌, Bool, true, false, List, [], ◌∷◌, ◌++◌, length, slice_index_or, ℤ}
+use Rattle.std.specs.Prelude.{Option, Some, None, ◌≡◌, ℕ, ◌+◌, ◌-◌, ◌≤◌, Bool, true, false, List, [], ◌∷◌, ◌++◌, length, slice_index_or, ℤ, reverse}
 use Rattle.cnf_core.specs.declared.lit.Lit.{Lit}
 use Rattle.cnf_core.specs.declared.formula.Step.{Step}
 use Rattle.cnf_core.specs.declared.formula.Step.TheVariants.{Add, Delete}
-use Rattle.cnf_core.specs.Accepted.{numbered, is_implied}
+use Rattle.cnf_core.specs.Accepted.{numbered, is_implied, closes, denied}
 use Rattle.cnf_core.specs.Lit.{variable_of}
 use Rattle.cnf_core.specs.Model.{IsModel}
 use Rattle.sat_core.specs.declared.solving.Outcome.{Outcome}
 use Rattle.sat_core.specs.declared.solving.Outcome.TheVariants.{Sat, Unsat, Spent}
-use Rattle.sat_core.specs.declared.solving.Attempt.{Attempt}
-use Rattle.sat_core.specs.declared.solving.Attempt.TheVariants.{Full, Learn}
 use Rattle.sat_core.specs.declared.trail.Mark.{Mark}
-use Rattle.sat_core.specs.Round.{FullTrail}
+use Rattle.sat_core.specs.Rests.{Needs, rests}
 use Rattle.cnf_core.specs.Closed.{IsFirstModel}
 use Rattle.cnf_core.specs.Learned.{IsLearnedLog, RefutesWithin, Each, IsLeafLit, HoldsNone, HasClosed}
 
@@ -36,6 +34,13 @@ pub record StepOk (leaves : ℕ) (clauses : List (List Lit)) (c : List Lit) (hin
 pub record IsAnalysed (clauses : List (List Lit)) (leaves : ℕ) (c : List Lit) (hints : List ℤ) : Type 0 where
   pub implied : is_implied (numbered clauses) c hints ≡ true
   pub learns : (c ≡ [] → ⊥) → StepOk leaves clauses c hints
+
+-- the clause of the decisions that a conflict rests on, refuted by the hints that go with it
+pub record IsTraced (clauses : List (List Lit)) (marks : List Mark) (c : List Lit) : Type 0 where
+  pub need : Needs
+  pub hints : List ℤ
+  pub is : c ≡ (rests clauses need (reverse marks)).clause
+  pub closes_it : closes (numbered clauses) (denied c) hints ≡ true
 
 abbrev pub as_true : Option Bool → Bool
 as_true None = false
@@ -62,9 +67,5 @@ pub record Ready (cs clauses : List (List Lit)) (leaves : ℕ) (log : List Step)
 -- what an answer for these clauses, variables, leaves and budget says
 abbrev pub OutcomeSays : List (List Lit) → ℕ → ℕ → ℕ → Outcome → Type 0
 OutcomeSays cs variables leaves budget (Sat values) = IsFirstModel cs leaves (value_at values) × (length values ≡ variables)
-OutcomeSays cs variables leaves budget (Unsat log) = RefutesWithin cs leaves budget log
-OutcomeSays cs variables leaves budget (Spent log) = IsLearnedLog cs leaves log × (length log ≡ budget)
-
-abbrev pub AttemptSays : List (List Lit) → ℕ → ℕ → Attempt → Type 0
-AttemptSays cs leaves size (Full values) = ((marks : List Mark) × FullTrail cs leaves marks values.items) × (length values.items ≡ size)
-AttemptSays cs leaves size (Learn c hints) = IsAnalysed cs leaves c.items hints.items
+OutcomeSays cs variables leaves budget (Unsat log) = RefutesWithin cs leaves budget log × InOrder (length cs) log
+OutcomeSays cs variables leaves budget (Spent log) = IsLearnedLog cs leaves log × (length log ≡ budget) × InOrder (length cs) log

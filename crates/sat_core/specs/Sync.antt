@@ -3,26 +3,17 @@ use Rattle.std.specs.Prelude.{◌≡◌, ℕ, ◌<◌, ◌≤◌, Bool, List, Op
 use Rattle.std.specs.List.{count_by}
 use Rattle.std.specs.Option.{is_none}
 use Rattle.cnf_core.specs.declared.lit.Lit.{Lit}
-use Rattle.cnf_core.specs.declared.standing.Standing.{Standing}
-use Rattle.cnf_core.specs.declared.standing.Standing.TheVariants.{Falsified, Unit as UnitAt, Neither}
+use Rattle.cnf_core.specs.declared.standing.Standing.TheVariants.{Falsified}
 use Rattle.cnf_core.specs.Lit.{variable_of}
 use Rattle.cnf_core.specs.Values.{Values, standing_of}
 use Rattle.sat_core.specs.declared.trail.Mark.{Mark}
-use Rattle.sat_core.specs.declared.propagation.Pass.{Pass}
-use Rattle.sat_core.specs.declared.propagation.Pass.TheVariants.{Conflict, Changed, Quiet}
 use Rattle.sat_core.specs.Trail.{assigned, IsTrail, before_decision}
-use Rattle.cnf_core.specs.Closed.{IsClosed}
 
 abbrev pub reads : List (Option Bool) → Values
 reads vs = λ x. slice_index_or vs x None
 
 abbrev pub Fits : ℕ → List Lit → Type 0
 Fits n c = All (λ l. variable_of l < n) c
-
-abbrev pub UnitFits : ℕ → Standing → Type 0
-UnitFits n Falsified = Unit {0}
-UnitFits n (UnitAt l) = variable_of l < n
-UnitFits n Neither = Unit {0}
 
 -- how many variables have no value
 abbrev pub open_count : List (Option Bool) → ℕ
@@ -44,8 +35,3 @@ pub record Grew (cs : List (List Lit)) (leaves : ℕ) (marks : List Mark) (value
   pub synced : IsSynced cs leaves marks' values'
   pub decision : before_decision (reverse marks') ≡ before_decision (reverse marks)
   pub fewer : open_count values' ≤ open_count values
-
-abbrev pub PassSays : List (List Lit) → List (Option Bool) → List (Option Bool) → Pass → Type 0
-PassSays cs old new (Conflict k) = IsConflict cs (reads new) k
-PassSays cs old new Changed = open_count new < open_count old
-PassSays cs old new Quiet = IsClosed (reads new) cs

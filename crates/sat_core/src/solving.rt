@@ -3,10 +3,15 @@ ghost use Rattle.cnf_core.specs.declared.formula.Step.TheVariants.{Add};
 ghost use Rattle.cnf_core.specs.Closed.{AreDecided};
 ghost use Rattle.cnf_core.specs.Learned.{Each};
 ghost use Rattle.cnf_core.specs.Lit.{variable_of};
-ghost use Rattle.sat_core.specs.Solved.{OutcomeSays, AttemptSays, InRange, as_true};
+ghost use Rattle.sat_core.specs.Solved.{OutcomeSays, as_true};
 ghost use Rattle.sat_core.specs.Sync.{Fits};
 
-use crate::searching::attempt;
+use crate::analysis::analyse;
+use crate::arena::Arena;
+use crate::learning::{begin, learn};
+use crate::searching::{Round, search};
+use crate::trail::Trail;
+use crate::watching::Watches;
 use bits_core::{Items, NoMemory};
 use cnf_core::{Clause, Formula, Lit, Log, Step};
 use std::alloc::Global;
@@ -23,37 +28,26 @@ pub enum Outcome {
     Spent(Log),
 }
 
-/// What one attempt found: the value of each variable, or a clause and its hints.
-#[derive(Drop)]
-pub(crate) enum Attempt {
-    Full(Vec<Option<bool>>),
-    Learn(Vec<Lit>, Vec<i64>),
-}
-
-/// The clause again; none of its variables is 0.
-fn copied_clause(alloc: Global, clause: &[Lit]) -> Result<Vec<Lit>, NoMemory>
-    ensures same { IfOk result (λ copied. copied.items ≡ clause.now) }
-    ensures above { OnOk result (All (λ l. 1 ≤ variable_of l) clause.now) }
+/// No literal of the clause has the variable 0. Costs nothing: what it says is proved.
+fn see_variables(clause: &[Lit])
+    ensures { All (λ l. 1 ≤ variable_of l) clause.now }
 {
-    let mut lits = Vec::new(alloc);
     for lit in clause {
         prove!(lit.variable() > 0);
-        lits.push(*lit)?;
     }
-    Ok(lits)
 }
 
-/// The clauses again, and room for more of them at the end.
-fn copied(alloc: Global, clauses: &[Clause]) -> Result<Vec<Clause>, NoMemory>
-    ensures same { IfOk result (λ copies. copies.items ≡ clauses.now) }
+/// The clauses, one after the other; none has the variable 0.
+fn gathered(alloc: Global, clauses: &[Clause]) -> Result<Arena, NoMemory>
+    ensures same { IfOk result (λ arena. arena ≡ clauses.now) }
     ensures above { OnOk result (All (All (λ l. 1 ≤ variable_of l)) clauses.now) }
 {
-    let mut copies = Vec::new(alloc);
+    let mut arena = Arena::new(alloc);
     for clause in clauses {
-        let lits = copied_clause(alloc, clause.as_slice())?;
-        copies.push(Items::of(lits))?;
+        see_variables(clause.as_slice());
+        arena.push(alloc, clause.as_slice())?;
     }
-    Ok(copies)
+    Ok(arena)
 }
 
 /// The values as an assignment, 0 where there is none.
@@ -67,34 +61,6 @@ fn assignment(alloc: Global, values: &[Option<bool>]) -> Result<Assignment, NoMe
     Ok(bits)
 }
 
-fn fresh_attempt(
-    alloc: Global,
-    clauses: &[Clause],
-    leaves: u32,
-    variables: usize,
-) -> Result<Attempt, NoMemory>
-    requires fit { All (Fits variables) clauses.now }
-    requires leaves_fit { leaves < variables }
-    requires small { variables ≤ 2 ^ 30 }
-    requires few { length clauses.now < 2 ^ 62 }
-    ensures { IfOk result (λ attempt. AttemptSays clauses.now leaves variables attempt) }
-{
-    let mut marks = Vec::new(alloc);
-    let mut values = vec![in alloc; None; variables]?;
-    let mut need = vec![in alloc; false; variables]?;
-    match attempt(
-        alloc,
-        clauses,
-        leaves,
-        &mut marks,
-        values.as_mut_slice(),
-        need.as_mut_slice(),
-    )? {
-        None => Ok(Attempt::Full(values)),
-        Some((lits, hints)) => Ok(Attempt::Learn(lits, hints)),
-    }
-}
-
 fn add_step(log: &mut Log, id: u64, lits: Vec<Lit>, hints: Vec<i64>) -> Result<(), NoMemory>
     ensures { OnOk result (log.new ≡ log.old ++ Add id lits.items hints.items ∷ []) }
 {
@@ -105,17 +71,10 @@ fn add_step(log: &mut Log, id: u64, lits: Vec<Lit>, hints: Vec<i64>) -> Result<(
     })
 }
 
-fn add_clause(alloc: Global, clauses: &mut Vec<Clause>, lits: &[Lit]) -> Result<(), NoMemory>
-    ensures { OnOk result (clauses.new.items ≡ clauses.old.items ++ lits.now ∷ []) }
-{
-    let copy = Vec::from_slice(alloc, lits)?;
-    clauses.push(Items::of(copy))?;
-    Ok(())
-}
-
 /// The first model in the order of the leaves, 0 before 1; or a log that refutes the formula, by at most `budget` learned
-/// clauses and the empty one; or the learned log of `budget` clauses. A learned clause has literals of leaves alone, each
-/// a decision that a conflict rests on. Each decision costs passes over all clauses.
+/// clauses and the empty one; or the learned log of `budget` clauses. The ids of a log go on from the formula's. A learned clause
+/// has literals of leaves alone, each a decision that a conflict rests on; the search goes on from the second greatest of them. A
+/// clause is looked at only where one of the two literals that it is watched at becomes false.
 pub fn solve(
     alloc: Global,
     formula: &Formula,
@@ -129,14 +88,22 @@ pub fn solve(
     requires decided { AreDecided formula.now.clauses formula.now.variables leaves }
     ensures { IfOk result (λ outcome. OutcomeSays formula.now.clauses formula.now.variables leaves budget outcome) }
 {
-    let variables = formula.variables as usize + 1;
-    let mut clauses = copied(alloc, formula.clauses.as_slice())?;
+    let size = formula.variables as usize + 1;
+    let mut clauses = gathered(alloc, formula.clauses.as_slice())?;
+    let mut trail = Trail::new(alloc, size)?;
+    let mut watches = Watches::new(alloc, 2 * size)?;
     let mut log = Items::new(alloc);
+    if let Some(place) = begin(&clauses, leaves, &mut trail, &mut watches)? {
+        let (lits, hints) = analyse(alloc, &clauses, leaves, &trail, place)?;
+        add_step(&mut log, clauses.len() as u64 + 1, lits, hints)?;
+        return Ok(Outcome::Unsat(log));
+    }
     let mut learned: u32 = 0;
     loop {
-        match fresh_attempt(alloc, clauses.as_slice(), leaves, variables)? {
-            Attempt::Full(values) => return Ok(Outcome::Sat(assignment(alloc, &values[1..])?)),
-            Attempt::Learn(lits, hints) => {
+        match search(&clauses, leaves, &mut trail, &mut watches)? {
+            Round::Full => return Ok(Outcome::Sat(assignment(alloc, &trail.values[1..])?)),
+            Round::Conflict(place) => {
+                let (lits, hints) = analyse(alloc, &clauses, leaves, &trail, place)?;
                 let id = clauses.len() as u64 + 1;
                 if lits.is_empty() {
                     add_step(&mut log, id, lits, hints)?;
@@ -145,7 +112,14 @@ pub fn solve(
                 if learned == budget {
                     return Ok(Outcome::Spent(log));
                 }
-                add_clause(alloc, &mut clauses, lits.as_slice())?;
+                learn(
+                    alloc,
+                    &mut clauses,
+                    leaves,
+                    &mut trail,
+                    &mut watches,
+                    lits.as_slice(),
+                )?;
                 add_step(&mut log, id, lits, hints)?;
                 learned += 1;
             }

@@ -1,7 +1,6 @@
-use Rattle.std.proofs.Common.{◌≡◌, ◌+◌, ◌<◌, arith, ap, subst, ◌∙◌, length, take, List, All}
+use Rattle.std.proofs.Common.{arith, subst, ◌∙◌, All}
 use Rattle.std.proofs.lemmas.List.{take_all}
 use Rattle.std.proofs.lemmas.List.Elements.{All-more}
-use Rattle.cnf_core.specs.declared.lit.Lit.{Lit}
 use Rattle.sat_core.specs.Sync.{Fits}
 use Rattle.sat_core.proofs.tests.clauses_fit.Goals as goal
 

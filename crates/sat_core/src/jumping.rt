@@ -1,0 +1,46 @@
+ghost use Rattle.std.specs.Prelude.{◌≡◌, ℕ, ◌≤◌, ◌<◌, ◌+◌, ◌^◌, length, reverse, take, All};
+ghost use Rattle.cnf_core.specs.Lit.{variable_of};
+ghost use Rattle.sat_core.specs.Jump.{jumped};
+ghost use Rattle.sat_core.specs.Sync.{reads, open_count};
+ghost use Rattle.sat_core.specs.Trail.{assigned, AreFresh};
+
+use crate::trail::{Mark, Trail};
+
+/// The place of the oldest decision above that of a variable, or of the oldest of all where it has none.
+fn cut_place(marks: &[Mark], second: u32) -> usize
+    ensures within { result ≤ length marks.now }
+    ensures jumped { reverse (take result marks.now) ≡ jumped second (reverse marks.now) (reverse marks.now) }
+{
+    let mut cut = marks.len();
+    let mut place = marks.len();
+    while place > 0 {
+        place -= 1;
+        if marks[place].reason == 0 {
+            if marks[place].lit.variable() == second {
+                return cut;
+            }
+            cut = place;
+        }
+    }
+    cut
+}
+
+/// Undoes all decisions above that of a leaf, or all where it is 0. The leaves up to it have values.
+pub fn jump(trail: &mut Trail, second: u32)
+    requires values { reads trail.old.values.items ≡ assigned (reverse trail.old.marks.items) }
+    requires fresh { AreFresh (reverse trail.old.marks.items) }
+    requires fit { All (λ m. variable_of m.lit < length trail.old.values.items) trail.old.marks.items }
+    requires small { second < 2 ^ 30 }
+    ensures jumped { reverse trail.new.marks.items ≡ jumped second (reverse trail.old.marks.items) (reverse trail.old.marks.items) }
+    ensures front { (n : ℕ) × (trail.new.marks.items ≡ take n trail.old.marks.items) }
+    ensures values { reads trail.new.values.items ≡ assigned (reverse trail.new.marks.items) }
+    ensures size { length trail.new.values.items ≡ length trail.old.values.items }
+    ensures open { length trail.new.marks.items + open_count trail.new.values.items ≡ length trail.old.marks.items + open_count trail.old.values.items }
+    ensures done { trail.new.done ≡ length trail.new.marks.items }
+    ensures next { trail.new.next ≡ second + 1 }
+{
+    let cut = cut_place(trail.marks.as_slice(), second);
+    trail.undo(cut);
+    trail.done = cut;
+    trail.next = second + 1;
+}
