@@ -1,0 +1,13 @@
+pub mod Answers
+pub mod Counted
+pub mod Laws
+pub mod Numbers
+pub mod Operators
+pub mod Outcomes
+pub mod Places
+pub mod Rooms
+pub mod Scopes
+pub mod Streams
+pub mod Tables
+pub mod Values
+pub mod Worths
