@@ -1,5 +1,5 @@
 -- Words and files fix the reply.
-use Rattle.std.proofs.Common.{◌≡◌, ◌∙◌, ◌++◌, ℕ, zero, suc, Bool, true, false, List, [], ◌∷◌, length, map, Option, Some, None, Ok, Err, refl, sym, ap, subst, inl, inr, nat_lt}
+use Rattle.std.proofs.Common.{◌≡◌, ◌∙◌, ◌++◌, ℕ, Bool, true, false, List, [], ◌∷◌, length, map, Option, Some, None, Ok, Err, refl, sym, ap, subst, inl, inr, nat_lt}
 use Rattle.bits_core.specs.declared.names.File.{File}
 use Rattle.cnf_core.specs.Text.{text_lines}
 use Rattle.design_core.specs.Cells.{In}
@@ -21,10 +21,10 @@ use Rattle.plain_rows.specs.Verdicts.{Verdict}
 use Rattle.conncheck.specs.Command.{Command, IsReply, check, lrat}
 use Rattle.vl_tree.specs.Codes.{bound}
 use Rattle.conncheck.specs.Reading.{OfFile, OfFiles, OfLength}
-use Rattle.conncheck.specs.Reply.{Reply, limited, logged, report}
+use Rattle.conncheck.specs.Reply.{Reply, logged, report}
 use Rattle.conncheck.specs.Texts.{Judged}
 use Rattle.conncheck.specs.Words.{Text}
-use Rattle.conncheck.specs.commands.Check.{OfReached, OfSource, OfTable, OfWalk, OfWords, Values, most_included}
+use Rattle.conncheck.specs.commands.Check.{IsIncluded, OfReached, OfSource, OfTable, OfUnread, OfWalk, OfWords, Values, Walks, has_room}
 use Rattle.conncheck.specs.commands.Lrat.{IsLogged, OfLogs}
 
 -- at most one reply is of this kind
@@ -92,17 +92,40 @@ module _ (v : Values) where
   one_reached table fs Need (Err (halt.Stop stop.NoMemory)) one r q h k = absurd h
   one_reached table fs Need (Err (halt.Need n)) one r q h k = one n r q h k
 
-  one_walk : (left : ℕ) (table : Text) (named : ℕ) (fs : List File) (files : Files) → IsOne (OfWalk left v table named fs files)
-  unfolding OfWalk
-  one_walk zero table named fs files r q h k = one_reached table fs (λ n x. x ≡ limited code.Files) (kept fs named v.defines) (λ n x y a b. a ∙ sym b) r q h k
-  one_walk (suc left) table named fs files r q h k =
-      one_reached table fs (λ n. OfFile n (λ bytes. OfWalk left v table named (fs ++ (record { name = n; bytes = bytes }) ∷ []) files) (files n)) (kept fs named v.defines)
-      (λ n. one_file n (λ bytes. OfWalk left v table named (fs ++ (record { name = n; bytes = bytes }) ∷ []) files) (files n)
-      (λ bytes. one_walk left table named (fs ++ (record { name = n; bytes = bytes }) ∷ []) files)) r q h k
+  one_unread : (room : Bool) (n : Text) (file : Option Text) → IsOne (OfUnread room n file)
+  one_unread true n file r q h k = one_file n (λ bytes x. ⊥) file (λ bytes x y a b. absurd a) r q h k
+  one_unread false n file r q h k = h ∙ sym k
+
+  -- a file that is asked for is read or not
+  not_both : (fs : List File) (files : Files) (table : Text) (named : ℕ) (f : File) (r : Reply) (a : Reached (List Seen)) → kept fs named v.defines ≡ a → a ≡ Err (halt.Need f.name) → IsIncluded v named files fs f
+      → OfReached v table fs (λ n. OfUnread (has_room fs) n (files n)) a r → ⊥
+  not_both fs files table named f r a is e i h =
+      let P : Reached (List Seen) → Type 0 = λ x. OfReached v table fs (λ n. OfUnread (has_room fs) n (files n)) x r in
+      let asked : OfUnread (has_room fs) f.name (files f.name) r = subst P e h in
+      let Q : Bool → Type 0 = λ b. OfUnread b f.name (files f.name) r in
+      let R : Option Text → Type 0 = λ x. OfFile f.name (λ bytes x. ⊥) x r in
+      let S : Bool → Type 0 = λ b. OfLength b f.bytes (λ bytes x. ⊥) r in
+      subst S i.fits (subst R i.is_there (subst Q i.room asked))
+
+  same_file : (f g : File) (files : Files) → f.name ≡ g.name → files f.name ≡ Some f.bytes → files g.name ≡ Some g.bytes → f ≡ g
+  same_file f g files e a b =
+      let bytes : f.bytes ≡ g.bytes = cc (ap files e) in
+      ap (λ (n : Text). record { name = n; bytes = f.bytes }) e ∙ ap (λ (bs : Text). record { name = g.name; bytes = bs }) bytes
+
+  one_walk : (table : Text) (named : ℕ) (files : Files) (fs xs ys : List File) (r q : Reply) → Walks v table named files fs xs r → Walks v table named files fs ys q → r ≡ q
+  one_walk table named files fs [] [] r q h k =
+      one_reached table fs (λ n. OfUnread (has_room fs) n (files n)) (kept fs named v.defines) (λ n. one_unread (has_room fs) n (files n)) r q h k
+  one_walk table named files fs [] (g ∷ ys) r q h k = absurd (not_both fs files table named g r (kept fs named v.defines) refl k.0.is_asked_for k.0 h)
+  one_walk table named files fs (f ∷ xs) [] r q h k = absurd (not_both fs files table named f q (kept fs named v.defines) refl h.0.is_asked_for h.0 k)
+  one_walk table named files fs (f ∷ xs) (g ∷ ys) r q h k =
+      let names : f.name ≡ g.name = cc (sym h.0.is_asked_for ∙ k.0.is_asked_for) in
+      let same : g ≡ f = sym (same_file f g files names h.0.is_there k.0.is_there) in
+      let P : File → Type 0 = λ x. Walks v table named files (fs ++ x ∷ []) ys q in
+      one_walk table named files (fs ++ f ∷ []) xs ys r q h.1 (subst P same k.1)
 
 pub one_reply : (command : Option Command) (files : Files) (r q : Reply) → IsReply command files r → IsReply command files q → r ≡ q
 one_reply None files r q h k = h ∙ sym k
 one_reply (Some (check v)) files r q h k =
-    one_file v.table (λ table. OfFiles v.files files (λ fs. OfWalk most_included v table (length fs) fs files)) (files v.table)
-    (λ table. one_files v.files files (λ fs. OfWalk most_included v table (length fs) fs files) (λ fs. one_walk v most_included table (length fs) fs files)) r q h k
+    one_file v.table (λ table. OfFiles v.files files (λ fs. OfWalk v table (length fs) files fs)) (files v.table)
+    (λ table. one_files v.files files (λ fs. OfWalk v table (length fs) files fs) (λ fs x y a b. one_walk v table (length fs) files fs a.included b.included x y a.walks b.walks)) r q h k
 one_reply (Some (lrat names)) files r q h k = one_files names files OfLogs one_of_logs r q h k

@@ -1,5 +1,5 @@
 -- Lines go out one after the other.
-use Rattle.std.proofs.Common.{◌≡◌, ◌<◌, ◌+◌, ◌++◌, ◌∙◌, ℕ, List, [], ◌∷◌, length, take, drop, map, get_or, Option, Some, None, Err, subst, refl, sym, ap, append_assoc, add-one, drop-cons}
+use Rattle.std.proofs.Common.{◌≡◌, ◌<◌, ◌+◌, ◌++◌, ◌∙◌, ℕ, List, [], ◌∷◌, length, take, drop, map, get_or, Option, Some, None, Result, Ok, Err, subst, refl, sym, ap, append_assoc, add-one, drop-cons}
 use Rattle.std.proofs.lemmas.List.{append-nil, map-append, take-append-drop}
 use Rattle.std.proofs.lemmas.Grind.{flat_map-append}
 use Rattle.std.specs.Io.KnownBytes.{Appends}
@@ -72,3 +72,9 @@ all_out o old now new front last parts front_is last_is =
     let e : joined front ++ last ≡ text_of o = ap (λ (t : Text). joined front ++ t) (sym (append-nil last)) ∙ sym (joined_at front [] last) ∙ ap joined parts in
     let P : Text → Type 0 = λ t. Appends old new t in
     subst P e (more old now new (joined front) last front_is last_is)
+
+-- what follows the first pieces, however the write of one more ended
+pub rest_of : {T : Type 0} (old now new : Option Text) (front piece : Text) (r : Result T Stop) → Appends old now front → Adds piece now new r → (rest : Text) × Appends old new (front ++ rest)
+rest_of old now new front piece (Ok x) p q = (piece, more old now new front piece p q)
+rest_of old now new front piece (Err Write) p q = (q.part, more old now new front q.part p q.follows)
+rest_of old now new front piece (Err Memory) p q = ([], more old now new front [] p q)

@@ -6,7 +6,8 @@ use Rattle.bits_core.specs.declared.names.File.{File}
 use Rattle.shelf_io.specs.Files.{Files}
 use Rattle.conncheck.specs.Answers.{Allows, without}
 use Rattle.conncheck.specs.Ends.{Ends, EndsFor}
-use Rattle.conncheck.specs.Reads.{AreRead, AreSmall, IsRead, MeetsLonger, Reaches, ReadsOne, StopsAt, UnreadEnds}
+use Rattle.vl_lex.specs.Sources.{AreSmall}
+use Rattle.conncheck.specs.Reads.{AreRead, IsRead, MeetsLonger, Reaches, ReadsOne, StopsAt, UnreadEnds}
 use Rattle.conncheck.specs.declared.reads.Unread.{Unread}
 use Rattle.conncheck.specs.declared.reads.Unread.TheVariants.{Missing, TooLong, NoMemory}
 use Rattle.conncheck.specs.declared.status.Status.{Status}
@@ -127,10 +128,10 @@ stops_behind steady before_it files name f names NoMemory still one s = tt
 
 -- one short file more
 pub small_more : (fs : List File) (f : File) → AreSmall fs → length f.bytes ≤ 2 ^ 24 → AreSmall (fs ++ f ∷ [])
-small_more [] f small one zero other lt = one
-small_more [] f small one (suc at) other lt = absurd (omega arith)
-small_more (x ∷ fs) f small one zero other lt = small 0 other (omega arith)
-small_more (x ∷ fs) f small one (suc at) other lt = small_more fs f (λ i o l. small (suc i) o (omega arith)) one at other (omega arith)
+small_more [] f small one zero lt = one
+small_more [] f small one (suc at) lt = absurd (omega arith)
+small_more (x ∷ fs) f small one zero lt = small 0 (omega arith)
+small_more (x ∷ fs) f small one (suc at) lt = small_more fs f (λ i l. small (suc i) (omega arith)) one at (omega arith)
 
 module _ (names : List Text) (Of : Files → Reply → Type 0) (Next : Files → List File → Reply → Type 0)
     (by_reads : (files : Files) (o : Reply) → OfFiles names files (Next files) o → Of files o) where

@@ -1,5 +1,5 @@
 -- The pieces of a report, by the rows as the code holds them.
-use Rattle.std.proofs.Common.{◌≡◌, ◌∙◌, ◌+◌, ◌++◌, ℕ, Bool, true, false, not, ◌&&◌, List, [], ◌∷◌, length, map, count_by, refl, sym, ap, arith, cond, if◌then◌else◌}
+use Rattle.std.proofs.Common.{◌≡◌, ◌∙◌, ◌+◌, ◌++◌, ℕ, zero, suc, ◌≤◌, Bool, true, false, not, ◌&&◌, Option, List, [], ◌∷◌, length, take, map, subst, count_by, refl, sym, ap, arith, cond, if◌then◌else◌}
 use Rattle.std.proofs.lemmas.List.{length-map}
 use Rattle.std.proofs.lemmas.List.Sums.{sum_by-cons}
 use Rattle.std.proofs.lemmas.Simd.{map-map}
@@ -10,7 +10,9 @@ use Rattle.plain_form.specs.declared.wires.Slot.{Slot}
 use Rattle.conncheck.specs.Judge.{judge}
 use Rattle.conncheck.specs.declared.status.Status.TheVariants as status
 use Rattle.conncheck.specs.Texts.{Judged, judged_text, total_of, total_text, was_proved}
-use Rattle.conncheck.specs.Reply.{report}
+use Rattle.std.specs.Io.KnownBytes.{Appends}
+use Rattle.conncheck.specs.Ends.{PrintsEach}
+use Rattle.conncheck.specs.Reply.{joined, report}
 use Rattle.conncheck.specs.Words.{Text}
 
 count_cons : {A : Type 0} (p : A → Bool) (x : A) (xs : List A) → count_by p (x ∷ xs) ≡ cond (p x) 1 0 + count_by p xs
@@ -40,6 +42,11 @@ some_left : {A : Type 0} (p : A → Bool) (xs : List A) → (count_by (λ x. not
 some_left p [] e = absurd (e refl)
 some_left p (x ∷ xs) e = some_at (p x) (list_all p xs) (count_by (λ y. not (p y)) xs) (some_left p xs) (λ z. e (count_cons (λ y. not (p y)) x xs ∙ z))
 
+take_map : {A B : Type 0} (f : A → B) (i : ℕ) (xs : List A) → take i (map f xs) ≡ map f (take i xs)
+take_map f zero xs = refl
+take_map f (suc i) [] = refl
+take_map {B = B} f (suc i) (x ∷ xs) = ap (λ (ys : List B). f x ∷ ys) (take_map f i xs)
+
 module _ (top : Text) (names : List Text) (slots : List Slot) (rows : List Line) where
   abbrev pub js : List Judged
   js = map (judge slots) (map seen_row rows)
@@ -66,6 +73,16 @@ module _ (top : Text) (names : List Text) (slots : List Slot) (rows : List Line)
 
   pub pieces_at : map text_at rows ++ (total_text js ∷ []) ≡ (report top names js).pieces
   pieces_at = ap (λ (ts : List Text). ts ++ (total_text js ∷ [])) (sym (map-map (judged_text top names) (λ r. judge slots (seen_row r)) rows) ∙ ap (map (judged_text top names)) together)
+
+  texts_at : map text_at rows ≡ map (judged_text top names) js
+  texts_at = sym (map-map (judged_text top names) (λ r. judge slots (seen_row r)) rows) ∙ ap (map (judged_text top names)) together
+
+  -- the first texts went out whole
+  pub each_at : (before now i : ℕ) (old new : Option Text) → now ≤ before + i + 1 → (rest : Text) × Appends old new (joined (map text_at (take i rows)) ++ rest)
+      → PrintsEach before now (map (judged_text top names) js) old new
+  each_at before now i old new le h =
+      let P : List Text → Type 0 = λ ts. Appends old new (joined ts ++ h.0) in
+      record { printed = i; each = le; rest = h.0; follows = subst P (sym (take_map text_at i rows) ∙ ap (take i) texts_at) h.1 }
 
   all_rows : list_all was_proved js ≡ list_all proved_row rows
   all_rows = ap (list_all was_proved) (sym together) ∙ all_map was_proved (λ r. judge slots (seen_row r)) rows

@@ -1,13 +1,17 @@
 -- How the inner calls end.
-use Rattle.std.specs.Prelude.{ℕ, [], ⊤, Option, Result, Ok, Err, ◌≡◌, ◌≤◌}
+use Rattle.std.specs.Prelude.{ℕ, ◌+◌, ◌++◌, take, List, [], ⊤, Option, Result, Ok, Err, ◌≡◌, ◌≤◌}
 use Rattle.std.specs.Io.KnownBytes.{Appends}
 use Rattle.shelf_io.specs.Cause.{Rose}
 use Rattle.shelf_io.specs.Files.{Files}
 use Rattle.shelf_io.specs.Sink.{AppendsPart}
+use Rattle.bits_core.specs.declared.names.File.{File}
+use Rattle.vl_tree.specs.declared.faults.Stop as walk
+use Rattle.vl_tree.specs.declared.faults.Stop.TheVariants as stop
 use Rattle.conncheck.specs.Answers.{Allows, AppendsPieces}
 use Rattle.conncheck.specs.Causes.{BadWordsCause, WriteFaultCause}
 use Rattle.conncheck.specs.Command.{Command}
-use Rattle.conncheck.specs.Reply.{Reply, text_of}
+use Rattle.conncheck.specs.Reply.{Reply, joined, limited, refused, text_of}
+use Rattle.conncheck.specs.Texts.{place_text}
 use Rattle.conncheck.specs.Words.{Text}
 use Rattle.conncheck.specs.declared.message.Message.{Message}
 use Rattle.conncheck.specs.declared.message.Message.TheVariants as message
@@ -27,6 +31,13 @@ abbrev pub Adds : {T : Type 0} → Text → Option Text → Option Text → Resu
 Adds piece old new (Ok _) = Appends old new piece
 Adds piece old new (Err Write) = AppendsPart old new piece
 Adds piece old new (Err Memory) = Appends old new []
+
+-- Of the rows that were decided in a call, each but the last was printed: so many of the texts, in order, went out whole, and whatever followed.
+pub record PrintsEach (before now : ℕ) (texts : List Text) (old new : Option Text) : Type 0 where
+  pub printed : ℕ
+  pub each : now ≤ before + printed + 1
+  pub rest : Text
+  pub follows : Appends old new (joined (take printed texts) ++ rest)
 
 abbrev pub SinkCause : ℕ → ℕ → Result Status Stop → Type 0
 SinkCause before now (Ok s) = WriteFaultCause before now s
@@ -63,6 +74,12 @@ abbrev pub IsOfMessage : Message → Result Status Stop → Type 0
 IsOfMessage message.BadWords r = ⊤
 IsOfMessage (message.Missing name) r = IsNoBadWords r
 IsOfMessage _ r = IsOfBytes r
+
+-- what is said where a walk over these files ends early
+abbrev pub StopEnds : walk.Stop → List File → Option Text → Option Text → Result Status Stop → Type 0
+StopEnds (stop.Fault f) files old new r = Ends (refused f.code (place_text files f.place)) old new r
+StopEnds (stop.Limit l) files old new r = Ends (limited l) old new r
+StopEnds stop.NoMemory files old new r = (new ≡ old) × (r ≡ Err Memory)
 
 -- with a reply of this kind
 pub record EndsBy (Is : Reply → Type 0) (old new : Option Text) (r : Result Status Stop) : Type 0 where

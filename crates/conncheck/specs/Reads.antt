@@ -1,9 +1,11 @@
 -- What the reads of files answer.
-use Rattle.std.specs.Prelude.{ℕ, ◌≡◌, ◌≤◌, ◌<◌, ◌^◌, slice_index_or, List, [], ◌∷◌, ◌++◌, length, Option, Some, None, Result, Ok, Err, ⊤}
+use Rattle.std.specs.Prelude.{ℕ, ◌≡◌, ◌≤◌, List, [], ◌∷◌, ◌++◌, length, Option, Some, None, Result, Ok, Err, ⊤}
 use Rattle.bits_core.specs.declared.names.File.{File}
 use Rattle.shelf_io.specs.Cause.{Rose}
 use Rattle.shelf_io.specs.Files.{Files}
 use Rattle.shelf_io.specs.Shelf.{IsLonger}
+use Rattle.vl_lex.specs.Sources.{file_of}
+use Rattle.vl_lex.specs.declared.source.Source.{Source}
 use Rattle.conncheck.specs.Words.{Text}
 use Rattle.conncheck.specs.Ends.{Ends}
 use Rattle.vl_tree.specs.declared.faults.Code.TheVariants as code
@@ -26,10 +28,6 @@ abbrev pub AreRead : Files → List Text → List File → Type 0
 AreRead files [] [] = ⊤
 AreRead files (n ∷ ns) (f ∷ fs) = IsRead files n f × AreRead files ns fs
 AreRead files _ _ = ⊥
-
--- each file is short enough for a walk
-abbrev pub AreSmall : List File → Type 0
-AreSmall fs = (at : ℕ) (other : File) → at < length fs → length (slice_index_or fs at other).bytes ≤ 2 ^ 24
 
 -- the files before this name were read
 pub record Reaches (files : Files) (names : List Text) (name : Text) : Type 0 where
@@ -55,6 +53,11 @@ ReadsOne steady files name (Ok f) = IsRead files name f
 ReadsOne steady files name (Err (Missing n)) = (n.now ≡ name) × (steady → files name ≡ None)
 ReadsOne steady files name (Err TooLong) = IsLonger (bound code.FileBytes) (files name)
 ReadsOne steady files name (Err NoMemory) = ⊤
+
+-- the same where the bytes are in the caller's keeping
+abbrev pub ReadsSource : Type 0 → Files → Text → Result Source Unread → Type 0
+ReadsSource steady files name (Ok s) = IsRead files name (file_of s)
+ReadsSource steady files name (Err u) = ReadsOne steady files name (Err u)
 
 -- the first name that is too long
 pub record MeetsLonger (files : Files) (names : List Text) : Type 0 where

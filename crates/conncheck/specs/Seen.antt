@@ -1,6 +1,7 @@
 -- Lines, values and messages as the code holds them.
 use Rattle.std.specs.Prelude.{map, option_map, string_bytes, Option, List, ℕ}
 use denote.Ref.{Bor}
+use Rattle.vl_lex.specs.Sources.{files_of}
 use Rattle.conncheck.specs.Command as spec
 use Rattle.conncheck.specs.Reply as reply
 use Rattle.conncheck.specs.Texts.{place_text}
@@ -35,6 +36,6 @@ abbrev pub said : Message → reply.Reply
 said message.BadWords = reply.bad_words
 said (message.Missing name) = reply.missing name.now
 said (message.Limit code) = reply.limited code
-said (message.Fault files fault) = reply.refused fault.now.code (place_text files.now fault.now.place)
+said (message.Fault files fault) = reply.refused fault.now.code (place_text (files_of files.now) fault.now.place)
 said (message.NotYet name) = reply.not_yet name.now
 said (message.Log answer) = reply.logged answer

@@ -2,6 +2,7 @@
 #![tactic(auto)]
 
 mod commands;
+mod decide;
 mod laws;
 mod message;
 mod reads;

@@ -4,9 +4,10 @@ ghost use Rattle.conncheck.specs.Seen.{said};
 
 use crate::status::Status;
 use crate::text::{fault_text, limit_text, line, log_text};
-use bits_core::{File, NoMemory};
+use bits_core::NoMemory;
 use log_verdict::LogAnswer;
 use std::alloc::Global;
+use vl_lex::Source;
 use vl_tree::{Code, Fault};
 
 /// A reply of one text.
@@ -19,7 +20,7 @@ pub enum Message<'a> {
     /// A limit is passed.
     Limit(Code),
     /// A fault of these files.
-    Fault(&'a [File], &'a Fault),
+    Fault(&'a [Source<'a>], &'a Fault),
     /// The form of the file of this name is not built yet.
     NotYet(&'a str),
     /// What a log comes to.

@@ -1,6 +1,7 @@
 // Files of a shelf, one after the other.
 ghost use Rattle.std.specs.Prelude.{◌≡◌, ◌≤◌, ◌^◌, IfOk, IfSome, length, map, string_bytes};
-ghost use Rattle.conncheck.specs.Reads.{AreSmall, ReadsAll, ReadsCause, ReadsOne};
+ghost use Rattle.conncheck.specs.Reads.{ReadsAll, ReadsCause, ReadsOne};
+ghost use Rattle.vl_lex.specs.Sources.{AreSmall};
 
 use bits_core::{File, FileList, Items, NoMemory};
 use shelf_io::{Shelf, ShelfError};

@@ -1,23 +1,26 @@
 // What is printed.
 ghost use Rattle.std.specs.Prelude.{map, ℕ};
-ghost use Rattle.conncheck.specs.Ends.{Adds, Ends, IsNoBadWords, IsOfBytes, IsOfMessage, PieceCause, ShelfCause, SinkCause};
+ghost use Rattle.conncheck.specs.Ends.{Adds, Ends, PrintsEach, IsNoBadWords, IsOfBytes, IsOfMessage, PieceCause, ShelfCause, SinkCause, StopEnds};
 ghost use Rattle.conncheck.specs.Judge.{judge};
 ghost use Rattle.conncheck.specs.Reads.{UnreadCause, UnreadEnds};
 ghost use Rattle.conncheck.specs.Reply.{report};
 ghost use Rattle.conncheck.specs.Seen.{said};
-ghost use Rattle.conncheck.specs.Texts.{total_of, verdict_text};
+ghost use Rattle.conncheck.specs.Texts.{judged_text, total_of, verdict_text};
 ghost use Rattle.plain_form.specs.Names.{listed};
 ghost use Rattle.plain_form.specs.SeenTable.{seen_row};
 ghost use Rattle.plain_rows.specs.Seen.{seen_verdict};
+ghost use Rattle.vl_lex.specs.Sources.{files_of};
 
+use crate::decide::Decide;
 use crate::message::Message;
 use crate::reads::Unread;
 use crate::status::{Status, Stop};
 use crate::text::{row_text, total_text};
-use plain_form::{Line, Names, Wires};
-use plain_rows::{Verdict, decide_row};
+use plain_form::{Line, Names};
+use plain_rows::Verdict;
 use shelf_io::Sink;
 use std::alloc::Global;
+use vl_lex::Source;
 use vl_tree::Code;
 
 /// Says a message. Linear in its text.
@@ -42,6 +45,24 @@ pub fn say_unread<K: Sink>(alloc: Global, unread: Unread<'_>, out: &mut K) -> Re
         Unread::Missing(name) => say(alloc, &Message::Missing(name), out),
         Unread::TooLong => say(alloc, &Message::Limit(Code::FileBytes), out),
         Unread::NoMemory => Err(Stop::Memory),
+    }
+}
+
+/// Says why a walk over these files ended early.
+pub fn say_stop<K: Sink>(
+    alloc: Global,
+    sources: &[Source<'_>],
+    stop: vl_tree::Stop,
+    out: &mut K,
+) -> Result<Status, Stop>
+    ensures printed { StopEnds stop (files_of sources.now) (K.taken out.old) (K.taken out.new) result }
+    ensures kind { IsOfBytes result }
+    ensures cause { SinkCause (K.faults out.old) (K.faults out.new) result }
+{
+    match stop {
+        vl_tree::Stop::Fault(fault) => say(alloc, &Message::Fault(sources, &fault), out),
+        vl_tree::Stop::Limit(code) => say(alloc, &Message::Limit(code), out),
+        vl_tree::Stop::NoMemory => Err(Stop::Memory),
     }
 }
 
@@ -77,22 +98,24 @@ fn say_total<K: Sink>(
 }
 
 /// A text for each row, as soon as it is decided, and then the total. Linear in the rows.
-pub fn say_report<K: Sink>(
+pub fn say_report<D: Decide, K: Sink>(
     alloc: Global,
     top: &[u8],
-    wires: &Wires<'_>,
+    names: &Names<'_>,
     rows: &[Line<'_>],
+    decider: &mut D,
     out: &mut K,
 ) -> Result<Status, Stop>
-    ensures printed { Ends (report top.now (listed wires.now.names) (map (judge wires.now.slots.items) (map seen_row rows.now))) (K.taken out.old) (K.taken out.new) result }
+    ensures printed { Ends (report top.now (listed names.now) (map (judge (D.slots decider.old)) (map seen_row rows.now))) (K.taken out.old) (K.taken out.new) result }
+    ensures each { PrintsEach (D.decided decider.old) (D.decided decider.new) (map (judged_text top.now (listed names.now)) (map (judge (D.slots decider.old)) (map seen_row rows.now))) (K.taken out.old) (K.taken out.new) }
     ensures kind { IsOfBytes result }
     ensures cause { SinkCause (K.faults out.old) (K.faults out.new) result }
 {
     let mut proved = 0usize;
     let mut refuted = 0usize;
     for row in rows {
-        let verdict = decide_row(wires.slots.as_slice(), *row);
-        say_row(alloc, top, &wires.names, *row, verdict, out)?;
+        let verdict = decider.decide(*row);
+        say_row(alloc, top, names, *row, verdict, out)?;
         match verdict {
             Verdict::Proved => proved += 1,
             Verdict::Refuted(_) => refuted += 1,

@@ -7,13 +7,15 @@ ghost use Rattle.plain_form.specs.SeenTable.{seen_row};
 ghost use Rattle.plain_rows.specs.Plain.{ones};
 ghost use Rattle.plain_rows.specs.Seen.{seen_verdict};
 ghost use Rattle.plain_rows.specs.Verdicts.{refuted};
+ghost use Rattle.vl_lex.specs.Sources.{files_of};
 
-use bits_core::{File, NoMemory};
+use bits_core::NoMemory;
 use itoa::Buffer;
 use log_verdict::LogAnswer;
 use plain_form::{Line, Names};
 use plain_rows::Verdict;
 use std::alloc::Global;
+use vl_lex::Source;
 use vl_tree::{Code, Fault, Place};
 
 // The one cycle of a plain design's windows and runs.
@@ -53,17 +55,17 @@ pub fn limit_text(alloc: Global, code: Code) -> Result<Vec<u8>, NoMemory>
 }
 
 // The name of a file by its place.
-fn name_at(files: &[File], at: usize) -> &[u8]
-    ensures { result.now ≡ spec.name_at (slice_get files.now at) }
+fn name_at<'f>(files: &[Source<'f>], at: usize) -> &'f [u8]
+    ensures { result.now ≡ spec.name_at (slice_get (files_of files.now) at) }
 {
     match files.get(at) {
-        Some(file) => file.name.as_slice(),
+        Some(file) => file.name,
         None => b"",
     }
 }
 
-fn place_text(alloc: Global, files: &[File], place: &Place) -> Result<Vec<u8>, NoMemory>
-    ensures { IfOk result (λ v. v.items ≡ spec.place_text files.now place.now) }
+fn place_text(alloc: Global, files: &[Source<'_>], place: &Place) -> Result<Vec<u8>, NoMemory>
+    ensures { IfOk result (λ v. v.items ≡ spec.place_text (files_of files.now) place.now) }
 {
     match place {
         Place::Line { file, line } => {
@@ -92,8 +94,8 @@ fn refused_text(alloc: Global, code: Code, at: &[u8]) -> Result<Vec<u8>, NoMemor
 }
 
 /// A fault and its place.
-pub fn fault_text(alloc: Global, files: &[File], fault: &Fault) -> Result<Vec<u8>, NoMemory>
-    ensures { IfOk result (λ v. v.items ≡ spec.refused_text fault.now.code (spec.place_text files.now fault.now.place)) }
+pub fn fault_text(alloc: Global, files: &[Source<'_>], fault: &Fault) -> Result<Vec<u8>, NoMemory>
+    ensures { IfOk result (λ v. v.items ≡ spec.refused_text fault.now.code (spec.place_text (files_of files.now) fault.now.place)) }
 {
     let place = place_text(alloc, files, &fault.place)?;
     refused_text(alloc, fault.code, place.as_slice())

@@ -1,5 +1,5 @@
 -- `check`: the rows of a table over sources.
-use Rattle.std.specs.Prelude.{◌≡◌, List, [], ◌∷◌, ◌++◌, ℕ, zero, suc, Bool, ◌&&◌, ◌||◌, ◌==◌, nat_lt, Option, Some, None, Ok, Err, if◌then◌else◌, codes, map, length}
+use Rattle.std.specs.Prelude.{◌≡◌, List, [], ◌∷◌, ◌++◌, ℕ, Bool, true, false, ◌&&◌, ◌||◌, ◌==◌, nat_lt, Option, Some, None, Ok, Err, if◌then◌else◌, codes, map, length}
 use Rattle.std.specs.Char.{is_ascii_alphanumeric}
 use Rattle.std.specs.List.{list_all}
 use Rattle.bits_core.specs.declared.names.File.{File}
@@ -89,7 +89,7 @@ OfSource v table (Some w) r = OfTable v w (rows_of w.names v.top table) r
 abbrev pub OfWords : Values → Text → List Text → Reply → Type 0
 OfWords v table words r = OfSource v table (source_of v.top words) r
 
--- what the walk over the files that were read comes to; no walk ends with want of memory
+-- what the walk over these files comes to; no walk ends with want of memory
 abbrev pub OfReached : Values → Text → List File → (Text → Reply → Type 0) → Reached (List Seen) → Reply → Type 0
 OfReached v table fs Need (Ok tokens) r = OfWords v table (map (λ t. t.text) tokens) r
 OfReached v table fs Need (Err (halt.Stop (stop.Fault f))) r = r ≡ refused f.code (place_text fs f.place)
@@ -97,17 +97,32 @@ OfReached v table fs Need (Err (halt.Stop (stop.Limit l))) r = r ≡ limited l
 OfReached v table fs Need (Err (halt.Stop stop.NoMemory)) r = ⊥
 OfReached v table fs Need (Err (halt.Need n)) r = Need n r
 
--- The walk over the named sources and what they include: a file that it asks for is read and stands behind the others, and the walk begins anew. So many files
--- may be read on the way.
-unfoldable pub OfWalk : ℕ → Values → Text → ℕ → List File → Files → Reply → Type 0
-OfWalk zero v table named fs files r = OfReached v table fs (λ n x. x ≡ limited code.Files) (kept fs named v.defines) r
-OfWalk (suc left) v table named fs files r =
-    OfReached v table fs (λ n. OfFile n (λ bytes. OfWalk left v table named (fs ++ (record { name = n; bytes = bytes }) ∷ []) files) (files n)) (kept fs named v.defines) r
+-- no check has more files than the limit
+abbrev pub has_room : List File → Bool
+has_room fs = nat_lt (length fs) (bound code.Files)
 
--- no check has more files
-unfoldable pub most_included : ℕ
-most_included = bound code.Files
+-- the walk over these files asks for this one, and it can be read
+pub record IsIncluded (v : Values) (named : ℕ) (files : Files) (fs : List File) (f : File) : Type 0 where
+  pub is_asked_for : kept fs named v.defines ≡ Err (halt.Need f.name)
+  pub room : has_room fs ≡ true
+  pub is_there : files f.name ≡ Some f.bytes
+  pub fits : nat_lt (bound code.FileBytes) (length f.bytes) ≡ false
+
+-- a file that the walk asks for and that can't be read
+abbrev pub OfUnread : Bool → Text → Option Text → Reply → Type 0
+OfUnread true name file r = OfFile name (λ bytes x. ⊥) file r
+OfUnread false name file r = r ≡ limited code.Files
+
+-- the walk over these files asks for the included ones, one after the other, and asks for no more that can be read
+abbrev pub Walks : Values → Text → ℕ → Files → List File → List File → Reply → Type 0
+Walks v table named files fs [] r = OfReached v table fs (λ n. OfUnread (has_room fs) n (files n)) (kept fs named v.defines) r
+Walks v table named files fs (f ∷ more) r = IsIncluded v named files fs f × Walks v table named files (fs ++ f ∷ []) more r
+
+-- the walk over the named sources and what they include
+pub record OfWalk (v : Values) (table : Text) (named : ℕ) (files : Files) (fs : List File) (r : Reply) : Type 0 where
+  pub included : List File
+  pub walks : Walks v table named files fs included r
 
 -- the replies of the command: the table is read first, then the sources in order, then what they include; then the source has to be plain, and last the table
 abbrev pub Means : Values → Files → Reply → Type 0
-Means v files r = OfFile v.table (λ table. OfFiles v.files files (λ fs. OfWalk most_included v table (length fs) fs files)) (files v.table) r
+Means v files r = OfFile v.table (λ table. OfFiles v.files files (λ fs. OfWalk v table (length fs) files fs)) (files v.table) r

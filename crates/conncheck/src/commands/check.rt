@@ -1,21 +1,26 @@
 // `check`: the rows of a table over sources.
-ghost use Rattle.std.specs.Prelude.{◌≡◌, ◌++◌, ◌∷◌, ◌+◌, ◌<◌, ◌≤◌, ◌^◌, [], IfOk, IfSome, length, map, option_map, string_bytes};
+ghost use Rattle.std.specs.Prelude.{◌≡◌, ◌≤◌, ◌^◌, true, IfOk, IfSome, length, map, option_map, string_bytes};
 ghost use Rattle.std.specs.List.{list_all};
+ghost use Rattle.std.specs.Str.{is_utf8};
 ghost use Rattle.conncheck.specs.Ends.{EndsBy, EndsFor, IsNoBadWords, IsOfBytes, ShelfCause, SinkCause};
 ghost use Rattle.conncheck.specs.Seen.{seen_check, seen_line, seen_word};
+ghost use Rattle.conncheck.specs.Reads.{ReadsCause, ReadsSource};
 ghost use Rattle.conncheck.specs.commands.Check as spec;
+ghost use Rattle.vl_lex.specs.Sources.{AreSmall, files_of};
 
+use crate::decide::ByEnds;
 use crate::message::Message;
-use crate::reads::{read_each, read_one};
-use crate::report::{say, say_report, say_unread};
+use crate::reads::{Unread, read_each, read_one};
+use crate::report::{say, say_report, say_stop, say_unread};
 use crate::status::{Status, Stop};
 use crate::words::{Line, read_line, value_of};
 use bits_core::{File, Items, NameList, NoMemory};
+use bumpalo::Bump;
 use plain_form::{pieces, read_rows, read_source};
 use shelf_io::{Shelf, Sink};
 use std::alloc::Global;
 use std::str;
-use vl_lex::{Files, Walk, preprocess};
+use vl_lex::{Source, Walked, start_walk};
 use vl_tree::{Code, Token};
 
 pub const OPTIONS: [&str; 3] = ["--top", "--table", "--define"];
@@ -135,64 +140,90 @@ fn say_check<K: Sink>(
     let Some(rows) = read_rows(alloc, &wires.names, top, table)? else {
         return say(alloc, &Message::NotYet(command.table), out);
     };
-    say_report(alloc, top, &wires, rows.as_slice(), out)
+    let mut decider = ByEnds {
+        slots: wires.slots.as_slice(),
+        decided: 0,
+    };
+    say_report(alloc, top, &wires.names, rows.as_slice(), &mut decider, out)
 }
 
-// One file more behind the others.
-fn with_file(read: Files, file: File) -> Result<Files, NoMemory>
-    requires few { length read.list + 1 < 2 ^ 32 }
-    requires small { length file.bytes ≤ 2 ^ 24 }
-    ensures list { IfOk result (λ r. r.list ≡ read.list ++ file ∷ []) }
-    ensures named { IfOk result (λ r. r.named ≡ read.named) }
+// The files of a list, where they stand.
+fn sources_of<'f>(alloc: Global, files: &'f [File]) -> Result<Items<Source<'f>>, NoMemory>
+    ensures { IfOk result (λ sources. files_of sources ≡ files.entry.now) }
 {
-    let Files { mut list, named } = read;
-    list.push(file)?;
-    Ok(Files { list, named })
+    let mut sources = Items::new(alloc);
+    for file in files {
+        sources.push(Source {
+            name: file.name.as_slice(),
+            bytes: file.bytes.as_slice(),
+        })?;
+    }
+    Ok(sources)
 }
 
-// The walk over the files that were read. A file that it asks for is read, and the walk begins anew; so many files may be read on the way.
-fn walk_from<H: Shelf, K: Sink>(
+// A file that the walk asks for, read into the room. Linear in the file.
+fn read_asked<'f, H: Shelf>(
     alloc: Global,
-    command: &Check<'_>,
+    room: &'f Bump,
+    name: &'f [u8],
+    shelf: &mut H,
+) -> Result<Source<'f>, Unread<'f>>
+    requires text { is_utf8 name.now ≡ true }
+    ensures kept { H.tells shelf.new ≡ H.tells shelf.old }
+    ensures steady { H.is_steady shelf.old → H.is_steady shelf.new }
+    ensures cause { ReadsCause (H.faults shelf.old) (H.faults shelf.new) result }
+    ensures named { IfOk result (λ s. s.name ≡ name.entry) }
+    ensures small { IfOk result (λ s. length s.bytes.now ≤ 2 ^ 24) }
+    ensures files { IfSome (H.tells shelf.old) (λ files. ReadsSource (H.is_steady shelf.old) files name.entry.now result) }
+{
+    let text = str::from_utf8(name).unwrap();
+    let file = read_one(alloc, text, shelf)?;
+    let bytes = room.try_alloc_slice_copy(file.bytes.as_slice())?;
+    Ok(Source { name, bytes })
+}
+
+// The walk over the named sources. A file that it asks for is read, and it goes on from there. Linear in the bytes of the files, each as often as it is included,
+// and in the tokens of the macros that are used.
+fn walk<'f, H: Shelf, K: Sink>(
+    alloc: Global,
+    command: &'f Check<'_>,
     table: &[u8],
-    read: Files,
-    left: usize,
+    room: &'f Bump,
+    named: &'f [File],
     shelf: &mut H,
     out: &mut K,
 ) -> Result<Status, Stop>
-    requires { length read.list + left < 2 ^ 32 }
+    requires few { length named.now ≤ 1024 }
+    requires small { AreSmall named.now }
     ensures shelf { ShelfCause (H.faults shelf.old) (H.faults shelf.new) result }
     ensures sink { SinkCause (K.faults out.old) (K.faults out.new) result }
     ensures words { IsNoBadWords result }
-    ensures answer { IfSome (H.tells shelf.old) (λ files. EndsFor (H.is_steady shelf.old) (spec.OfWalk left (seen_check command.now) table.now read.named read.list) files (K.taken out.old) (K.taken out.new) result) }
+    ensures answer { IfSome (H.tells shelf.old) (λ files. EndsFor (H.is_steady shelf.old) (λ fls. spec.OfWalk (seen_check command.now) table.now (length named.now) fls named.now) files (K.taken out.old) (K.taken out.new) result) }
 {
-    let name = match preprocess(alloc, &read, &command.defines) {
-        Ok(Walk::Tokens(tokens)) => {
-            return say_check(alloc, command, table, tokens.as_slice(), out);
+    let mut sources = sources_of(alloc, named)?;
+    let walked_over = sources_of(alloc, named)?;
+    let mut walked = start_walk(alloc, walked_over, named.len(), &command.defines);
+    'includes: loop {
+        let asking = match walked {
+            Ok(Walked::Asks(asking)) => asking,
+            Ok(Walked::Tokens(tokens)) => {
+                return say_check(alloc, command, table, tokens.as_slice(), out);
+            }
+            Err(stop) => return say_stop(alloc, sources.as_slice(), stop, out),
+        };
+        if sources.len() >= Code::Files.bound() as usize {
+            return say(alloc, &Message::Limit(Code::Files), out);
         }
-        Ok(Walk::Need(name)) => name,
-        Err(vl_tree::Stop::Fault(fault)) => {
-            return say(alloc, &Message::Fault(read.list.as_slice(), &fault), out);
-        }
-        Err(vl_tree::Stop::Limit(code)) => return say(alloc, &Message::Limit(code), out),
-        Err(vl_tree::Stop::NoMemory) => return Err(Stop::Memory),
-    };
-    if left == 0 {
-        return say(alloc, &Message::Limit(Code::Files), out);
-    }
-    let text = str::from_utf8(name.as_slice()).unwrap();
-    let file = match read_one(alloc, text, shelf) {
-        Ok(file) => file,
-        Err(unread) => return say_unread(alloc, unread, out),
-    };
-    match with_file(read, file) {
-        Ok(more) => walk_from(alloc, command, table, more, left - 1, shelf, out),
-        Err(NoMemory) => Err(Stop::Memory),
+        let source = match read_asked(alloc, room, asking.name, shelf) {
+            Ok(source) => source,
+            Err(unread) => return say_unread(alloc, unread, out),
+        };
+        sources.push(source)?;
+        walked = asking.go_on(source.bytes);
     }
 }
 
-/// The table is read first, then the sources in order, then what they include. Linear in the files, which are walked once more for each file
-/// that is included.
+/// The table is read first, then the sources in order, then what they include. Linear in the files, each as often as it is included.
 pub fn answer<H: Shelf, K: Sink>(
     alloc: Global,
     command: &Check<'_>,
@@ -216,13 +247,13 @@ pub fn answer<H: Shelf, K: Sink>(
     if list.len() > most {
         return say(alloc, &Message::Limit(Code::Files), out);
     }
-    let named = list.len();
-    walk_from(
+    let room = Bump::new(alloc);
+    walk(
         alloc,
         command,
         table.bytes.as_slice(),
-        Files { list, named },
-        most,
+        &room,
+        list.as_slice(),
         shelf,
         out,
     )

@@ -1,6 +1,7 @@
 use Rattle.std.proofs.Common.{rules, ◌≡◌, ◌∙◌, ◌+◌, ◌++◌, ◌∷◌, [], Err, map, string_bytes, take, drop, get_or, ap, sym, subst, List, ℕ}
 use Rattle.bits_core.specs.declared.names.File.{File}
-use Rattle.conncheck.specs.Reads.{AreRead, AreSmall, IsRead, Reaches, ReadsOne}
+use Rattle.vl_lex.specs.Sources.{AreSmall}
+use Rattle.conncheck.specs.Reads.{AreRead, IsRead, Reaches, ReadsOne}
 use Rattle.conncheck.proofs.AllowsLaws as laws
 use Rattle.conncheck.proofs.ReadLaws as reads
 use Rattle.conncheck.proofs.reads.read_each.Goals as goal
@@ -28,9 +29,9 @@ loop-name-preserved g c =
       kept = c.read_one.ensures.kept ∙ c.loop-name.invariant.kept;
       steady = λ s. c.read_one.ensures.steady (c.loop-name.invariant.steady s);
       faults = c.in_ok-file.ensures.cause ∙ c.loop-name.invariant.faults;
-      small = λ at other lt.
+      small = λ at lt.
           let R : List File → Type 0 = AreSmall in
-          subst R (sym c.in_ok-push.ensures.ok) (reads.small_more c.loop-name.files c.in_ok-file.file c.loop-name.invariant.small c.in_ok-file.ensures.small) at other lt;
+          subst R (sym c.in_ok-push.ensures.ok) (reads.small_more c.loop-name.files c.in_ok-file.file c.loop-name.invariant.small c.in_ok-file.ensures.small) at lt;
       read = laws.told (g.H.Shelf.tells c.args.shelf.now) _ (λ files e.
           let one = laws.at_told _ _ files c.in_ok-file.ensures.files (c.loop-name.invariant.kept ∙ e) in
           let read = laws.at_told _ _ files c.loop-name.invariant.read e in

@@ -1,5 +1,6 @@
 use Rattle.std.proofs.Common.{◌≡◌, take, map, string_bytes, IfSome}
-use Rattle.conncheck.specs.Reads.{AreRead, AreSmall}
+use Rattle.vl_lex.specs.Sources.{AreSmall}
+use Rattle.conncheck.specs.Reads.{AreRead}
 use Rattle.conncheck.proofs.reads.read_each.Given as goal
 
 abbrev pub invariant-loop-name : goal.invariant-loop-name

@@ -16,8 +16,8 @@ use Rattle.conncheck.specs.Reply.{report}
 pub returns-in_err-say_row-clause-printed : goal.returns-in_err-say_row-clause-printed
 returns-in_err-say_row-clause-printed g c =
     let top = c.args.top.now in
-    let names = listed c.args.wires.now.names in
-    let slots = c.args.wires.now.slots.items in
+    let names = listed c.args.names.now in
+    let slots = g.D.Decide.slots c.args.decider.now in
     let rows = c.args.rows.now in
     let i = c.loop-row.row-index in
     let d : Line = record { name = record { ref_ptr = (0, 0); now = [] }; source = 0; dest = 0 } in
@@ -28,13 +28,13 @@ returns-in_err-say_row-clause-printed g c =
     (map (rep.text_at top names slots rows) (take i rows)) (map (rep.text_at top names slots rows) (drop (i + 1) rows) ++ (total_text (rep.js top names slots rows) ∷ []))
     (rep.text_at top names slots rows (get_or rows i d)) c.in_err-say_row.field-0.0
     (laws.row_at (rep.text_at top names slots rows) rows i d (total_text (rep.js top names slots rows)) c.loop-row-test.true ∙ rep.pieces_at top names slots rows)
-    c.loop-row.invariant.taken (subst P (c.decide_row-verdict.ensures.by_ends ∙ ap (λ (ss : List Slot). verdict_of ss (seen_row (get_or rows i d))) c.as_slice.ensures.value) adds))
+    c.loop-row.invariant.taken (subst P (c.decide-verdict.ensures.by_ends ∙ ap (λ (ss : List Slot). verdict_of ss (seen_row (get_or rows i d))) c.loop-row.invariant.slots) adds))
 
 pub returns-in_err-say_total-clause-printed : goal.returns-in_err-say_total-clause-printed
 returns-in_err-say_total-clause-printed g c =
     let top = c.args.top.now in
-    let names = listed c.args.wires.now.names in
-    let slots = c.args.wires.now.slots.items in
+    let names = listed c.args.names.now in
+    let slots = g.D.Decide.slots c.args.decider.now in
     let rows = c.args.rows.now in
     let i = c.loop-row.row-index in
     let whole : take i rows ≡ rows = take_all i rows (omega arith) in
@@ -52,8 +52,8 @@ returns-in_err-say_total-clause-printed g c =
 pub returns-then-refuted-eq0-clause-printed : goal.returns-then-refuted-eq0-clause-printed
 returns-then-refuted-eq0-clause-printed g c =
     let top = c.args.top.now in
-    let names = listed c.args.wires.now.names in
-    let slots = c.args.wires.now.slots.items in
+    let names = listed c.args.names.now in
+    let slots = g.D.Decide.slots c.args.decider.now in
     let rows = c.args.rows.now in
     let i = c.loop-row.row-index in
     let whole : take i rows ≡ rows = take_all i rows (omega arith) in
@@ -71,8 +71,8 @@ returns-then-refuted-eq0-clause-printed g c =
 pub returns-else-refuted-eq0-clause-printed : goal.returns-else-refuted-eq0-clause-printed
 returns-else-refuted-eq0-clause-printed g c =
     let top = c.args.top.now in
-    let names = listed c.args.wires.now.names in
-    let slots = c.args.wires.now.slots.items in
+    let names = listed c.args.names.now in
+    let slots = g.D.Decide.slots c.args.decider.now in
     let rows = c.args.rows.now in
     let i = c.loop-row.row-index in
     let whole : take i rows ≡ rows = take_all i rows (omega arith) in
@@ -86,3 +86,35 @@ returns-else-refuted-eq0-clause-printed g c =
           (map (rep.text_at top names slots rows) (take i rows)) (total_of (length rows) c.loop-row.proved c.loop-row.refuted)
           (parts ∙ rep.pieces_at top names slots rows) c.loop-row.invariant.taken ((c.in_ok-say_total.ensures {u = tt}).printed),
     )
+
+pub returns-in_err-say_row-clause-each : goal.returns-in_err-say_row-clause-each
+returns-in_err-say_row-clause-each g c =
+    let slots = g.D.Decide.slots c.args.decider.now in
+    let i = c.loop-row.row-index in
+    rep.each_at c.args.top.now (listed c.args.names.now) slots c.args.rows.now (g.D.Decide.decided c.args.decider.now) (g.D.Decide.decided c.decide-verdict.new.self) i
+    (g.K.Sink.taken c.args.out.now) (g.K.Sink.taken c.say_row.new.out) (omega (arith, c.decide-verdict.ensures.counted, c.loop-row.invariant.decided))
+    (laws.rest_of (g.K.Sink.taken c.args.out.now) (g.K.Sink.taken c.loop-row.out) (g.K.Sink.taken c.say_row.new.out) _ _ c.say_row.result c.loop-row.invariant.taken c.say_row.ensures.printed)
+
+pub returns-in_err-say_total-clause-each : goal.returns-in_err-say_total-clause-each
+returns-in_err-say_total-clause-each g c =
+    let slots = g.D.Decide.slots c.args.decider.now in
+    let i = c.loop-row.row-index in
+    rep.each_at c.args.top.now (listed c.args.names.now) slots c.args.rows.now (g.D.Decide.decided c.args.decider.now) (g.D.Decide.decided c.loop-row.decider) i
+    (g.K.Sink.taken c.args.out.now) (g.K.Sink.taken c.say_total.new.out) (omega (arith, c.loop-row.invariant.decided))
+    (laws.rest_of (g.K.Sink.taken c.args.out.now) (g.K.Sink.taken c.loop-row.out) (g.K.Sink.taken c.say_total.new.out) _ _ c.say_total.result c.loop-row.invariant.taken c.say_total.ensures.printed)
+
+pub returns-then-refuted-eq0-clause-each : goal.returns-then-refuted-eq0-clause-each
+returns-then-refuted-eq0-clause-each g c =
+    let slots = g.D.Decide.slots c.args.decider.now in
+    let i = c.loop-row.row-index in
+    rep.each_at c.args.top.now (listed c.args.names.now) slots c.args.rows.now (g.D.Decide.decided c.args.decider.now) (g.D.Decide.decided c.loop-row.decider) i
+    (g.K.Sink.taken c.args.out.now) (g.K.Sink.taken c.say_total.new.out) (omega (arith, c.loop-row.invariant.decided))
+    (laws.rest_of (g.K.Sink.taken c.args.out.now) (g.K.Sink.taken c.loop-row.out) (g.K.Sink.taken c.say_total.new.out) _ _ c.say_total.result c.loop-row.invariant.taken c.say_total.ensures.printed)
+
+pub returns-else-refuted-eq0-clause-each : goal.returns-else-refuted-eq0-clause-each
+returns-else-refuted-eq0-clause-each g c =
+    let slots = g.D.Decide.slots c.args.decider.now in
+    let i = c.loop-row.row-index in
+    rep.each_at c.args.top.now (listed c.args.names.now) slots c.args.rows.now (g.D.Decide.decided c.args.decider.now) (g.D.Decide.decided c.loop-row.decider) i
+    (g.K.Sink.taken c.args.out.now) (g.K.Sink.taken c.say_total.new.out) (omega (arith, c.loop-row.invariant.decided))
+    (laws.rest_of (g.K.Sink.taken c.args.out.now) (g.K.Sink.taken c.loop-row.out) (g.K.Sink.taken c.say_total.new.out) _ _ c.say_total.result c.loop-row.invariant.taken c.say_total.ensures.printed)

@@ -1,4 +1,5 @@
 use Rattle.std.proofs.Common.{arith, ◌<◌, ◌∙◌, ◌∷◌, [], ℕ, Err, List, length, subst, inl, refl}
+use Rattle.bits_core.specs.declared.names.File.{File}
 use Rattle.vl_tree.specs.declared.faults.Code.TheVariants as code
 use Rattle.vl_tree.specs.declared.faults.Stop.TheVariants as stop
 use Rattle.vl_lex.specs.declared.gate.Halt.TheVariants as halt
@@ -10,7 +11,7 @@ use Rattle.conncheck.proofs.ReadLaws as reads
 use Rattle.conncheck.proofs.WalkLaws as walk
 use Rattle.conncheck.proofs.commands.check.answer.Goals as goal
 use Rattle.conncheck.specs.Reply.{limited}
-use Rattle.conncheck.specs.commands.Check.{Means, OfWalk, most_included}
+use Rattle.conncheck.specs.commands.Check.{Means, OfWalk}
 
 pub returns-in-Err-clause-answer : goal.returns-in-Err-clause-answer
 returns-in-Err-clause-answer g c = laws.told (g.H.Shelf.tells c.args.shelf.now) _ (λ files e.
@@ -42,12 +43,11 @@ returns-then-len-most-clause-answer g c = laws.told (g.H.Shelf.tells c.args.shel
     record {
       reply = limited code.Files;
       allowed = inl (reads.of_all (walk.Front k files) files (k.table ∷ k.files) (file ∷ list) (limited code.Files) (one, all)
-          (walk.at_end k file.bytes (length list) most_included list files (limited code.Files) (Err (halt.Stop (stop.Limit code.Files))) (walk.too_many list (length list) k.defines many) refl));
+          (walk.at_end k file.bytes (length list) files list (limited code.Files) (Err (halt.Stop (stop.Limit code.Files))) (walk.too_many list (length list) k.defines many) refl));
       ended = c.say.ensures.printed;
     })
 
 pub returns-clause-answer : goal.returns-clause-answer
-unfolding most_included
 returns-clause-answer g c = laws.told (g.H.Shelf.tells c.args.shelf.now) _ (λ files e.
     let k = seen_check c.args.command.now in
     let file = c.in-Ok.file in
@@ -55,11 +55,10 @@ returns-clause-answer g c = laws.told (g.H.Shelf.tells c.args.shelf.now) _ (λ f
     let steady = g.H.Shelf.is_steady c.args.shelf.now in
     let after = g.H.Shelf.is_steady c.read_each.new.shelf in
     let old = g.K.Sink.taken c.args.out.now in
-    let new = g.K.Sink.taken c.walk_from.new.out in
+    let new = g.K.Sink.taken c.walk.new.out in
     let one : IsRead files k.table file = laws.at_told _ _ files c.in-Ok.ensures.files e in
     let all : AreRead files k.files list = laws.at_told _ _ files c.in-Ok-read_each.ensures.files (c.read_one.ensures.kept ∙ e) in
-    let rest = laws.at_told _ _ files c.walk_from.ensures.answer (c.read_each.ensures.kept ∙ c.read_one.ensures.kept ∙ e) in
-    let M : ℕ → Type 0 = λ m. EndsFor after (OfWalk m k c.as_slice.result.now c.len-named.result list) files old new c.walk_from.result in
-    let N : ℕ → Type 0 = λ n. EndsFor after (OfWalk 1024 k c.as_slice.result.now n list) files old new c.walk_from.result in
-    let T : List ℕ → Type 0 = λ x. EndsFor after (OfWalk 1024 k x (length list) list) files old new c.walk_from.result in
-    walk.ends_front k steady after files file list old new c.walk_from.result (λ s. c.read_each.ensures.steady (c.read_one.ensures.steady s)) one all (subst T c.as_slice.ensures (subst N c.len-named.ensures (subst M c.bound-most.ensures rest))))
+    let rest = laws.at_told _ _ files c.walk.ensures.answer (c.read_each.ensures.kept ∙ c.read_one.ensures.kept ∙ e) in
+    let N : List File → Type 0 = λ fs. EndsFor after (λ fls. OfWalk k c.as_slice.result.now (length fs) fls fs) files old new c.walk.result in
+    let T : List ℕ → Type 0 = λ x. EndsFor after (λ fls. OfWalk k x (length list) fls list) files old new c.walk.result in
+    walk.ends_front k steady after files file list old new c.walk.result (λ s. c.read_each.ensures.steady (c.read_one.ensures.steady s)) one all (subst T c.as_slice.ensures (subst N c.as_slice-2.ensures rest)))

@@ -5,6 +5,7 @@ use Rattle.plain_form.specs.SeenWires.{seen_wires}
 use Rattle.plain_form.specs.Table.{rows_of}
 use Rattle.plain_form.specs.Wires.{source_of}
 use Rattle.plain_form.specs.declared.table.Line.{Line}
+use Rattle.plain_form.specs.declared.wires.Slot.{Slot}
 use Rattle.conncheck.specs.Ends.{Ends}
 use Rattle.conncheck.specs.Judge.{judge}
 use Rattle.conncheck.specs.Seen.{seen_check}
@@ -51,9 +52,10 @@ returns-clause-answer g c =
     let e : source_of command.top (map (λ t. t.text.now) c.args.tokens.now) ≡ Some w = search rules in
     let t : rows_of w.names command.top c.args.table.now ≡ Some rows = search rules in
     let P : List Line → Type 0 = λ ls. Ends (report c.args.command.now.top.now w.names (map (judge w.slots) (map seen_row ls))) (g.K.Sink.taken c.args.out.now) (g.K.Sink.taken c.say_report.new.out) c.say_report.result in
-    let Q : List ℕ → Type 0 = λ top. Ends (report top w.names (map (judge w.slots) (map seen_row c.as_slice.result.now))) (g.K.Sink.taken c.args.out.now) (g.K.Sink.taken c.say_report.new.out) c.say_report.result in
+    let Q : List ℕ → Type 0 = λ top. Ends (report top w.names (map (judge w.slots) (map seen_row c.as_slice-2.result.now))) (g.K.Sink.taken c.args.out.now) (g.K.Sink.taken c.say_report.new.out) c.say_report.result in
+    let S : List Slot → Type 0 = λ ss. Ends (report c.as_bytes-top.result.now w.names (map (judge ss) (map seen_row c.as_slice-2.result.now))) (g.K.Sink.taken c.args.out.now) (g.K.Sink.taken c.say_report.new.out) c.say_report.result in
     record {
       reply = report command.top w.names (map (judge w.slots) rows);
       is = laws.of_report command c.args.table.now (map (λ t. t.text.now) c.args.tokens.now) w rows e t;
-      ended = subst P c.as_slice.ensures.value (subst Q c.as_bytes-top.ensures.value c.say_report.ensures.printed);
+      ended = subst P c.as_slice-2.ensures.value (subst Q c.as_bytes-top.ensures.value (subst S c.as_slice.ensures.value c.say_report.ensures.printed));
     }
