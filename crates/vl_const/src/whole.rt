@@ -35,8 +35,8 @@ pub fn const_value_in<S: Constants>(alloc: Global, expr: &Expr, scope: &S) -> Re
     }
 }
 
-/// The values of an expression's replication counts, of both bounds of each `[h:l]` and of the width of each `+:` and `-:`, in source order, without
-/// those that stand inside such a count, bound or width; or the lowest code among the faults of these.
+/// The constants that the lengths inside an expression hang on, as they stand in the source: how often its replications repeat, the bounds of its
+/// part-selects, the widths of its indexed ones. One that stands inside another is not listed. Or the lowest code among their faults.
 pub fn counts(alloc: Global, expr: &Expr, names: &ConstTable) -> Result<CountList, Stop>
     ensures { GivesAt [] result (spec.count_list (table_meaning names.now) (term expr.now)) }
 {
