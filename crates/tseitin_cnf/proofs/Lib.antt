@@ -1,3 +1,4 @@
+pub mod PartLaws
 pub mod ReadLaws
 pub mod WalkLaws
 pub mod SolverLaws

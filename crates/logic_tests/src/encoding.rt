@@ -1,9 +1,9 @@
-use crate::encode;
 use bits_core::NoMemory;
 use cnf_core::Formula;
 use cyc_net::{Net, Node};
 use std::alloc::Global;
 use std::test::Fail;
+use tseitin_cnf::{encode, encode_part};
 
 /// The number of variables, and the literals of the clauses, 0 behind each.
 fn spelled(alloc: Global, formula: &Formula) -> Result<Vec<i64>, NoMemory> {
@@ -42,5 +42,29 @@ fn leaves_out_what_the_goal_does_not_read(rt: HostRuntime) -> Result<(), Fail> {
     let alloc = rt.alloc();
     let found = both(alloc).ok().ok_or("memory")?;
     assert!(rt; found.as_slice() == [4, -4, 1, 0, -4, 2, 0, 4, -1, -2, 0, 4, 0].as_slice());
+    Ok(())
+}
+
+/// The formula of `a and b` over b alone: a is 0.
+fn over_second(alloc: Global) -> Result<Vec<i64>, NoMemory> {
+    let mut net = Net::new(alloc)?;
+    let a = net.push(Node::Leaf(0))?;
+    let b = net.push(Node::Leaf(1))?;
+    if a as usize >= net.len() || b as usize >= net.len() {
+        return Ok(Vec::new(alloc));
+    }
+    let goal = net.push(Node::And(a, b))?;
+    if goal as usize >= net.len() {
+        return Ok(Vec::new(alloc));
+    }
+    let encoded = encode_part(alloc, &net, &[1], goal)?;
+    spelled(alloc, &encoded.formula)
+}
+
+#[test]
+fn other_leaves_are_zero(rt: HostRuntime) -> Result<(), Fail> {
+    let alloc = rt.alloc();
+    let found = over_second(alloc).ok().ok_or("memory")?;
+    assert!(rt; found.as_slice() == [3, -2, 0, -3, 2, 0, -3, 1, 0, 3, -2, -1, 0, 3, 0].as_slice());
     Ok(())
 }

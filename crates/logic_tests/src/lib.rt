@@ -1,0 +1,5 @@
+//! Tests of the logic crates through their public calls: that the calls succeed where there is memory, and tables of texts.
+#![tactic(auto)]
+
+#[cfg(test)]
+mod encoding;
