@@ -1,2 +1,3 @@
+pub mod FreeNumbers
 pub mod Parsed
 pub mod Turns

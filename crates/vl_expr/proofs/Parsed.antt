@@ -1,5 +1,5 @@
 -- What an answer of the reader says of the tokens between two places.
-use Rattle.std.proofs.Common.{◌≡◌, ◌≢◌, ℕ, suc, ◌-◌, ◌<◌, ◌≤◌, length, take, drop, inl, inr, refl, subst, arith, Bool, true, sym, ◌∙◌, Option, Some, None, ap}
+use Rattle.std.proofs.Common.{◌≡◌, ◌≢◌, ℕ, suc, ◌-◌, ◌<◌, ◌≤◌, length, take, drop, inl, inr, refl, subst, arith, Bool, true, sym, ◌∙◌, Option, Some, None, ap, List}
 use Rattle.std.proofs.lemmas.Bool.{cases_lt, eqb-true}
 use Rattle.std.specs.Prelude.{Result, Err, IfOk, Ok}
 use Rattle.vl_tree.specs.declared.words.Word.{Word}
@@ -8,17 +8,18 @@ use Rattle.vl_tree.specs.declared.expressions.Expr.{Expr}
 use Rattle.vl_grammar.specs.declared.roles.Role.{Role}
 use Rattle.vl_grammar.specs.declared.roles.Role.TheVariants as role
 use Rattle.vl_grammar.specs.Roles.{role_of, binds}
-use Rattle.vl_grammar.specs.Read.{Tokens, expr}
-use Rattle.vl_grammar.specs.Spells.{Whole, Ends}
+use Rattle.vl_grammar.specs.Read.{Tokens, Outcome, expr, list, select}
+use Rattle.vl_grammar.specs.Spells.{Whole, Ends, Listed, Selected}
 use Rattle.vl_grammar.specs.Longest.{Stands, NoneBegins}
 use Rattle.vl_grammar.proofs.Longest.{front_refused, none_empty}
 use Rattle.vl_expr.specs.declared.errors.ReadError.{ReadError}
 use Rattle.vl_expr.specs.declared.errors.ReadError.TheVariants.{NoMemory, Refused}
-use Rattle.vl_expr.specs.Ends.{closes}
+use Rattle.vl_expr.specs.Ends.{closes, EndsList}
+use Rattle.vl_tree.specs.declared.expressions.Select.{Select}
 use Rattle.vl_expr.specs.Gives.{Gives, IsGiven}
 use Rattle.vl_tree.specs.Words.{next}
-use Rattle.vl_grammar.proofs.Sound.{spelled}
-use Rattle.vl_grammar.proofs.Again.{whole_again}
+use Rattle.vl_grammar.proofs.Sound.{spelled, expr_sound, list_sound, select_sound}
+use Rattle.vl_grammar.proofs.Again.{Closes, whole_again, whole_list, listed_again, selected_again}
 
 pub error_none : {X : Type 0} (view : X → Expr × Tokens) (ts : Tokens) (at end : ℕ) (error : ReadError)
     → Gives view (Err error) (expr (suc (length (take (end - at) (drop at ts)))) 0 (take (end - at) (drop at ts)))
@@ -95,3 +96,39 @@ only_given view ts f (Err Refused) is g t rest d ends =
     let same : ◌≡◌ {A = Option (Expr × Tokens)} None (Some (t, rest)) =
     sym g ∙ (ap (λ n. expr n 0 ts) is ∙ whole_again d (length ts) (omega arith) ends) in
     cc
+
+-- what a list spells is given
+pub given_list : {X : Type 0} (view : X → List Expr × Tokens) (ts : Tokens) (f : ℕ) (r : Result X ReadError) → Gives view r (list (expr f) ts)
+    → IfOk r (λ x. Listed (view x).0 ts (view x).1)
+given_list view ts f (Ok x) g = list_sound (expr f) (expr_sound f) (view x).0 ts (view x).1 g
+given_list view ts f (Err error) g = tt
+
+pub given_select : {X : Type 0} (view : X → Select × Tokens) (ts : Tokens) (f : ℕ) (r : Result X ReadError) → Gives view r (select (expr f) ts)
+    → IfOk r (λ x. Selected (view x).0 ts (view x).1)
+given_select view ts f (Ok x) g = select_sound (expr f) (expr_sound f) (view x).0 ts (view x).1 g
+given_select view ts f (Err error) g = tt
+
+abbrev this_or : {A : Type 0} → A × Tokens → Outcome A → A × Tokens
+this_or p (Some q) = q
+this_or p None = p
+
+-- the reader gives this value
+is_given : {X A : Type 0} (view : X → A × Tokens) (value : A) (rest : Tokens) (r : Result X ReadError) (o : Outcome A)
+    → Gives view r o → o ≡ Some (value, rest) → IsGiven view value rest r
+is_given {X} {A} view value rest (Ok x) o g e =
+    let same : ◌≡◌ {A = Outcome A} (Some (view x)) (Some (value, rest)) = sym g ∙ e in
+    ap (this_or (value, rest)) same
+is_given view value rest (Err NoMemory) o g e = tt
+is_given {X} {A} view value rest (Err Refused) o g e = let same : ◌≡◌ {A = Outcome A} None (Some (value, rest)) = sym g ∙ e in cc
+
+pub only_list : {X : Type 0} (view : X → List Expr × Tokens) (ts : Tokens) (f : ℕ) (r : Result X ReadError) → f ≡ suc (length ts) → Gives view r (list (expr f) ts)
+    → (xs : List Expr) (rest : Tokens) → Listed xs ts rest → EndsList (next rest) → IsGiven view xs rest r
+only_list view ts f r is g xs rest d ends =
+    let closes : Closes (next rest) = record { ends = ends.ends; no_comma = ends.no_comma; no_brace = ends.no_brace } in
+    is_given view xs rest r (list (expr f) ts) g
+    (ap (λ n. list (expr n) ts) is ∙ whole_list (expr (suc (length ts))) xs ts rest (listed_again d (length ts) (omega arith) closes))
+
+pub only_select : {X : Type 0} (view : X → Select × Tokens) (ts : Tokens) (f : ℕ) (r : Result X ReadError) → f ≡ suc (length ts) → Gives view r (select (expr f) ts)
+    → (x : Select) (rest : Tokens) → Selected x ts rest → IsGiven view x rest r
+only_select view ts f r is g x rest d =
+    is_given view x rest r (select (expr f) ts) g (ap (λ n. select (expr n) ts) is ∙ selected_again d (length ts) (omega arith))

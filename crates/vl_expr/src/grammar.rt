@@ -1,6 +1,11 @@
-ghost use Rattle.std.specs.Prelude.{◌≡◌, suc, length};
+ghost use Rattle.std.specs.Prelude.{◌≡◌, suc, length, List, IfOk};
+ghost use Rattle.vl_tree.specs.declared.expressions.Expr as tree;
+ghost use Rattle.vl_tree.specs.declared.expressions.Select as selects;
+ghost use Rattle.vl_tree.specs.Words.{next};
+ghost use Rattle.vl_grammar.specs.Spells.{Listed, Selected};
+ghost use Rattle.vl_expr.specs.Ends.{EndsList};
 ghost use Rattle.vl_grammar.specs.Read as spec;
-ghost use Rattle.vl_expr.specs.Gives.{Gives};
+ghost use Rattle.vl_expr.specs.Gives.{Gives, IsGiven};
 ghost use Rattle.vl_expr.specs.Nests.{Nests};
 
 use crate::errors::ReadError;
@@ -414,10 +419,12 @@ pub fn expr<'t, 'f>(
     }
 }
 
-/// One or more expressions with commas between, at the head of some tokens, and the tokens behind them: exactly what the reader of the grammar gives.
-/// Linear in what is read.
+/// One or more expressions with commas between, at the head of some tokens, and the tokens behind them: exactly what the reader of the grammar gives (`read`). So
+/// they spell the tokens that they take (`spelled`), and a list behind which none goes on is the one that is given (`only`). Linear in what is read.
 pub fn read_list<'t, 'f>(alloc: Global, tokens: &'t [Token<'f>]) -> Read<'t, 'f, ExprList<'f>>
-    ensures { Gives (λ x. (x.0, x.1.now)) result (spec.list (spec.expr (suc (length tokens.now))) tokens.now) }
+    ensures spelled { IfOk result (λ x. Listed x.0 tokens.now x.1.now) }
+    ensures only { (xs : List tree.Expr) (rest : spec.Tokens) → Listed xs tokens.now rest → EndsList (next rest) → IsGiven (λ x. (x.0, x.1.now)) xs rest result }
+    ensures read { Gives (λ x. (x.0, x.1.now)) result (spec.list (spec.expr (suc (length tokens.now))) tokens.now) }
 {
     let grammar = Grammar {
         alloc,
@@ -427,10 +434,12 @@ pub fn read_list<'t, 'f>(alloc: Global, tokens: &'t [Token<'f>]) -> Read<'t, 'f,
     grammar.list(tokens)
 }
 
-/// A select behind its opening bracket, at the head of some tokens, and the tokens behind its closing one: exactly what the reader of the grammar gives.
-/// Linear in what is read.
+/// A select behind its opening bracket, at the head of some tokens, and the tokens behind its closing one: exactly what the reader of the grammar gives (`read`). So
+/// it spells the tokens that it takes (`spelled`), and a select that stands there is the one that is given (`only`). Linear in what is read.
 pub fn read_select<'t, 'f>(alloc: Global, tokens: &'t [Token<'f>]) -> Read<'t, 'f, Select<'f>>
-    ensures { Gives (λ x. (x.0, x.1.now)) result (spec.select (spec.expr (suc (length tokens.now))) tokens.now) }
+    ensures spelled { IfOk result (λ x. Selected x.0 tokens.now x.1.now) }
+    ensures only { (x : selects.Select) (rest : spec.Tokens) → Selected x tokens.now rest → IsGiven (λ x. (x.0, x.1.now)) x rest result }
+    ensures read { Gives (λ x. (x.0, x.1.now)) result (spec.select (spec.expr (suc (length tokens.now))) tokens.now) }
 {
     let grammar = Grammar {
         alloc,
