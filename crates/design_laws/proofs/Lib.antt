@@ -16,3 +16,12 @@ pub mod RunLaws
 pub mod ComputedLaws
 pub mod DesignLaws
 pub mod CoverageLaws
+pub mod AgainLaws
+pub mod BitLaws
+pub mod KindLaws
+pub mod ItemBitLaws
+pub mod NumberLaws
+pub mod SameLaws
+pub mod TreeLaws
+pub mod PrintLaws
+pub mod OwnLaws

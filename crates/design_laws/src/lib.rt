@@ -5,6 +5,8 @@
 ghost use Rattle.std.specs.Prelude.{ℕ, List};
 ghost use Rattle.design_core.specs.declared.place.BitRef.{BitRef};
 ghost use Rattle.design_laws.specs.Coverage.{CoversAlways};
+ghost use Rattle.design_laws.specs.Trees.{NumberIsPlace, NumberOnce, NumberOrder, ItemHasBits, DesignHasBits, ItemKeepsKind, DesignKeepsKind, ExprIsRenumbered, LeftIsRenumbered, StmtIsRenumbered, RenumberedSame, ItemByNames, ItemNamesOwn, ItemOverMore};
+ghost use Rattle.design_laws.specs.Prints.{BitsPrintApart};
 ghost use Rattle.design_laws.specs.Laws.{ValueByReads, ExecByReads, ExecByDrives, CaseCovers, SettlesOnce, SettledPlain, NextPlain, ReadsPlain, CutIsOrdered, CutIsSound, SliceIsClosed, SliceIsOne, SliceDecides, SliceFirst, SliceAlone, NamesDecide, NamesFirst, OrderIsFree, RunHasWindow, BitsDecide, HeldAreInputs, NeedsDecide, FreeLaunch, FreeBySet, ItemsFit, ItemsWeigh, SilentReadsNothing, TraceIsComputed, OrderIsCut, CutIsPart, PartIsSound, UnblockedHits, QuerySees, TraceExists, ItemIsLawful};
 
 /// Values and bodies depend on the bits that they read alone, and a body changes the bits that it drives alone.
@@ -103,4 +105,36 @@ pub fn traces_are_computed()
 /// A checked item is a lawful cell: what it gives depends on the bits that it reads, and on the stored value of the bit itself.
 pub fn items_are_lawful()
     ensures { ItemIsLawful }
+{}
+
+/// The numbers of bits: a bit's number is its place in the order of bits, no two bits have one, and numbers have that order.
+pub fn bits_are_numbered()
+    ensures place { NumberIsPlace }
+    ensures once { NumberOnce }
+    ensures order { NumberOrder }
+{}
+
+/// Formed items read and drive bits of the signals alone, and have writes of their own kind to signals alone.
+pub fn formed_items()
+    ensures bits { ItemHasBits }
+    ensures design_bits { DesignHasBits }
+    ensures kind { ItemKeepsKind }
+    ensures design_kind { DesignKeepsKind }
+{}
+
+/// A tree under other numbers of signals is formed alike, weighs the same, and is the renamed term; under the same numbers it is itself.
+/// What an item is depends on the lengths of the signals that it names alone.
+pub fn trees_by_names()
+    ensures expr { ExprIsRenumbered }
+    ensures left { LeftIsRenumbered }
+    ensures stmt { StmtIsRenumbered }
+    ensures same { RenumberedSame }
+    ensures item { ItemByNames }
+    ensures own { ItemNamesOwn }
+    ensures more { ItemOverMore }
+{}
+
+/// Distinct paths are enough for no two bits to print alike, where no path without a range is the text of a bit: nobody compares the texts of all bits.
+pub fn bits_print_apart()
+    ensures { BitsPrintApart }
 {}
