@@ -146,7 +146,7 @@ stays : (s : Bitmap BitRef) (i : ℕ → Bitmap BitRef) (k : ℕ) → states (ma
 stays s i zero = refl
 stays s i (suc k) = stays s i k
 
-and_true : (a g : Bool) → g ≡ true → (a && g) ≡ a
+pub and_true : (a g : Bool) → g ≡ true → (a && g) ≡ a
 and_true true g h = h
 and_true false g h = refl
 
@@ -178,13 +178,13 @@ kept_stays_open = record {
 }
 
 -- if (clr) g <= 0; y = a & g
-cleared_ordered : IsOrdered (map cell_of cleared)
+pub cleared_ordered : IsOrdered (map cell_of cleared)
 cleared_ordered = (record { reads_before = λ b h. cc; alone = λ b h. grind (arith, nat_tests) }, (record { reads_before = λ b h. grind (arith, nat_tests); alone = λ b h. refl }, tt))
 
-cleared_good : (x : CoreItem) → In x cleared → IsGood x
+pub cleared_good : (x : CoreItem) → In x cleared → IsGood x
 cleared_good = both_good (clocked clear) (assign (wire 1) (anded 0 2)) tt (good_assign (wire 1) (anded 0 2) (λ b h. h))
 
-cleared_first : (u : ℕ) → u ≡ 0 → CanBreak (map cell_of cleared) (held_in_run [] None 0) (Some g_is_set) (row 0 1 0 []) u → ⊥
+pub cleared_first : (u : ℕ) → u ≡ 0 → CanBreak (map cell_of cleared) (held_in_run [] None 0) (Some g_is_set) (row 0 1 0 []) u → ⊥
 cleared_first u z v =
     let P : ℕ → Type 0 = λ j. CanBreak (map cell_of cleared) (held_in_run [] None 0) (Some g_is_set) (row 0 1 0 []) j in
     let w = subst P z v in
@@ -198,7 +198,7 @@ cleared_first u z v =
     ∙ sym (same 0 (omega arith) (of 1))
     ∙ sym (ap (λ (q : BitRef × BitRef). w.σ 0 q.1) p) ∙ w.hits.differs ∙ ap (λ (q : BitRef × BitRef). not (w.σ 0 q.0)) p)
 
-below_one : (u : ℕ) → u < 1 → u ≡ 0
+pub below_one : (u : ℕ) → u < 1 → u ≡ 0
 below_one u h = omega arith
 
 pub cleared_at_launch_one : ClearedAtLaunchOne
@@ -243,7 +243,7 @@ low_ordered = (record { reads_before = λ b h. grind (arith, nat_tests); alone =
 low_good : (x : CoreItem) → In x reset_low → IsGood x
 low_good = only_one _ (λ b. refl)
 
-some_is : (p q : BitRef × Bool) → Some p ≡ Some q → p ≡ q
+pub some_is : (p q : BitRef × Bool) → Some p ≡ Some q → p ≡ q
 some_is p q h = cc h
 
 low_free : (q : BitRef × Bool) → Some (of 2, false) ≡ Some q → driven (map cell_of reset_low) q.0 ≡ false

@@ -15,13 +15,13 @@ use Rattle.design_core.proofs.TermLaws.{term_constant, term_signal, term_local, 
 use Rattle.design_cases.specs.OperatorRows.{ones}
 use Rattle.design_cases.specs.TreeRows.{worth, literal, ExtendRows, CompareRows, FillRows, IndexRows, PartRows, some_bit, CallRows, free_item, FreeRows, ResetRows}
 
-abbrev four : ℕ → ℕ
+abbrev pub four : ℕ → ℕ
 four s = 4
 
-literal_is : (sign : Bool) (n v : ℕ) → term four (literal sign n v) ≡ constant (bits_of n v)
+pub literal_is : (sign : Bool) (n v : ℕ) → term four (literal sign n v) ≡ constant (bits_of n v)
 literal_is sign n v = term_constant four (literal sign n v) (bits_of n v) refl
 
-seen : (e : DExpr) (t : Term) → term four e ≡ t → worth e ≡ value t ones []
+pub seen : (e : DExpr) (t : Term) → term four e ≡ t → worth e ≡ value t ones []
 seen e t is = ap (λ x. value x ones []) is
 
 pub extend_rows : ExtendRows

@@ -3,6 +3,7 @@
 
 ghost use Rattle.design_cases.specs.WorkedRows.{ThroughIsProved, GroundedIsRefuted, GroundedFirst, GatedByCondition, PipedByTwo, EnabledByCondition, KeptStaysOpen, ClearedAtLaunchOne, CarriedByCondition, ResetIsReleased, SwitchedByCondition, TreeIsRead};
 ghost use Rattle.design_cases.specs.TreeRows.{ExtendRows, CompareRows, FillRows, IndexRows, PartRows, CallRows, FreeRows, ResetRows};
+ghost use Rattle.design_cases.specs.EdgeRows.{EnabledInEachCycle, GatedInLastCycle, ResetEndsInTime, HeldByCycle, LastLaunchCounts, BoxesInBoxes, LaunchFreeByTwo, BitsAsPrinted, LeavesInOrder, SignChangesOutside};
 ghost use Rattle.design_cases.specs.OperatorRows.{UnaryRows, ArithmeticRows, BitwiseRows, LessRows, SignRows, EqualRows, ShiftRows, JoinRows, SelectRows, MatchRows, WriteRows};
 
 /// The operators come out as worked by hand.
@@ -50,6 +51,20 @@ pub fn trees_as_worked()
     ensures call { CallRows }
     ensures free { FreeRows }
     ensures reset { ResetRows }
+{}
+
+/// Conditions are asked for in each cycle, resets end in time, the last launch counts, boxes hold what stands in them, and bits and leaves have their texts and order.
+pub fn edges_as_worked()
+    ensures each_cycle { EnabledInEachCycle }
+    ensures last_cycle { GatedInLastCycle }
+    ensures reset_ends { ResetEndsInTime }
+    ensures held { HeldByCycle }
+    ensures last_launch { LastLaunchCounts }
+    ensures boxes { BoxesInBoxes }
+    ensures launch_free { LaunchFreeByTwo }
+    ensures printed { BitsAsPrinted }
+    ensures leaves { LeavesInOrder }
+    ensures sign { SignChangesOutside }
 {}
 
 #[cfg(test)]
