@@ -28,5 +28,6 @@ pub mod Tables
 pub mod Tops
 pub mod Turns
 pub mod Unbounded
+pub mod Unwound
 pub mod Values
 pub mod Walks

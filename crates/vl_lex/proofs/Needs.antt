@@ -1,5 +1,5 @@
 -- Which file a step of the walk asks for.
-use Rattle.std.proofs.Common.{◌≡◌, ℕ, zero, suc, ◌+◌, ◌<◌, ◌≤◌, ◌==◌, nat_le, nat_lt, Bool, true, false, if◌then◌else◌, Option, Some, None, Ok, Err, List, [], ◌∷◌, ◌++◌, length, refl, ap, sym, ◌∙◌, subst, arith}
+use Rattle.std.proofs.Common.{◌≡◌, ℕ, ◌==◌, nat_le, nat_lt, Bool, true, false, if◌then◌else◌, Option, Some, None, Ok, Err, List, [], ◌∷◌, ◌++◌, length, refl, ap, sym, ◌∙◌, subst, arith}
 use Rattle.std.specs.Prelude.{◌&&◌, ◌||◌, not}
 use Rattle.std.proofs.lemmas.Bool.Decides.{nat_tests}
 use Rattle.std.specs.Str.{bytes_eq}
@@ -15,11 +15,11 @@ use Rattle.vl_lex.specs.declared.directives.Directive.TheVariants as d
 use Rattle.vl_lex.specs.declared.branches.Branch.{Branch}
 use Rattle.vl_lex.specs.Bytes.{Text}
 use Rattle.vl_lex.specs.Lexed.{Placed}
-use Rattle.vl_lex.specs.Gate.{SGate, Reached, and_then, Ends, IsStop, IsReason, fault_at, halt_reason, flushed}
+use Rattle.vl_lex.specs.Gate.{SGate, Reached, and_then, Ends, IsStop, fault_at, halt_reason, flushed}
 use Rattle.vl_lex.specs.Macros.{directive_of, directive_name, is_directive}
-use Rattle.vl_lex.specs.Walk.{SState, SBranches, Acted, Step, most_files, with_listed, refused, acted, with_implicit, name_after, row_len, is_quoted, inner_text, is_file_name, find_file, enter_at, list_turn, include_turn, act, is_branch_word, branch_turn, step_branch, passed, fed_state, directive_step, step, ended, LexHalts, define_turn, undef_with, undef_turn, nettype_with, nettype_turn, macro_turn, finished}
+use Rattle.vl_lex.specs.Walk.{SState, SBranches, Acted, most_files, with_listed, refused, name_after, is_quoted, inner_text, is_file_name, find_file, enter_at, list_turn, include_turn, act, is_branch_word, branch_turn, step_branch, passed, fed_state, directive_step, step, ended, LexHalts, define_turn, undef_with, undef_turn, nettype_with, nettype_turn, macro_turn}
 use Rattle.vl_lex.specs.Asked.{is_include, lacking, asked_name, asked_include, asked}
-use Rattle.vl_lex.proofs.Absent.{Fine, Well, then_well, halts, flushes, refuses, defines, undefines, nettypes, uses, branches, feeds_state}
+use Rattle.vl_lex.proofs.Absent.{Fine, Well, halts, flushes, refuses, defines, undefines, nettypes, uses, branches, feeds_state}
 
 -- the name that an outcome asks for
 abbrev pub need_of : {S : Type 0} → Reached S → Option Text

@@ -1,11 +1,9 @@
 -- Parts of a walk that may stop where a file is asked for.
-use Rattle.std.proofs.Common.{◌≡◌, ℕ, zero, suc, ◌+◌, ◌-◌, ◌<◌, ◌≤◌, ◌^◌, nat_lt, Bool, false, Option, Some, None, Result, Ok, Err, List, [], ◌∷◌, ◌++◌, length, map, drop, get_or, slice_index_or, refl, ap, sym, ◌∙◌, subst, arith}
+use Rattle.std.proofs.Common.{◌≡◌, ℕ, zero, suc, ◌+◌, ◌-◌, ◌<◌, ◌≤◌, ◌^◌, Option, Some, None, Ok, Err, List, [], ◌∷◌, ◌++◌, length, map, drop, get_or, slice_index_or, refl, ap, sym, ◌∙◌, subst, arith}
 use Rattle.std.proofs.lemmas.List.{append-nil, map-append}
-use Rattle.std.proofs.lemmas.Bool.Decides.{nat_tests}
 use Rattle.bits_core.specs.declared.names.File.{File}
 use Rattle.vl_tree.specs.declared.faults.Code.TheVariants as code
 use Rattle.vl_tree.specs.declared.faults.Stop.{Stop}
-use Rattle.vl_tree.specs.declared.faults.Stop.TheVariants as stop
 use Rattle.vl_lex.specs.declared.source.Source.{Source}
 use Rattle.vl_lex.specs.declared.lexer.Lined.{Lined}
 use denote.Ref.{Bor}
@@ -16,14 +14,14 @@ use Rattle.vl_lex.specs.declared.opened.Passed.TheVariants as p
 use Rattle.vl_lex.specs.declared.gate.Halt.{Halt}
 use Rattle.vl_lex.specs.declared.gate.Halt.TheVariants as h
 use Rattle.vl_lex.specs.Bytes.{Text}
-use Rattle.vl_lex.specs.Lexed.{Seen, Placed, placed, file_tokens}
+use Rattle.vl_lex.specs.Lexed.{placed, file_tokens}
 use Rattle.vl_lex.specs.Gate.{Reached, and_then, Ends, IsStop, fault_at}
-use Rattle.vl_lex.specs.Sources.{AreSmall, file_of, files_of}
-use Rattle.vl_lex.specs.Walk.{last_line, SState, SBranches, no_branches, bytes_of, walked_file, walked, inner_of, LexHalts, Step, step, entered, ended, reachable, walked_sources, finished, kept, walk_all, named_sources, predefined, start, most_files}
+use Rattle.vl_lex.specs.Sources.{AreSmall, files_of}
+use Rattle.vl_lex.specs.Walk.{last_line, SState, SBranches, no_branches, bytes_of, walked_file, walked, inner_of, Step, step, entered, ended, reachable}
 use Rattle.vl_lex.specs.Asked.{asked}
-use Rattle.vl_lex.specs.Paused.{Passes, SOpen, open_view, opens_view, walked_open, resumed, remaining}
+use Rattle.vl_lex.specs.Paused.{Passes, SOpen, open_view, opens_view, walked_open, resumed}
 use Rattle.vl_lex.proofs.Gives.{gives_end, ends_as}
-use Rattle.vl_lex.proofs.Walks.{walk_begins, walk_refused, step_stops, inner_stops, step_goes, walk_over, enters_file, enters_none, reached, step_waits}
+use Rattle.vl_lex.proofs.Walks.{walk_begins, step_stops, inner_stops, step_goes, walk_over, enters_file, enters_none, reached, step_waits}
 use Rattle.vl_lex.proofs.Shelves.{same_bytes, step_alike, StepWithin, Enters}
 use Rattle.vl_lex.proofs.Needs.{step_asks}
 

@@ -1,5 +1,5 @@
 -- The named sources and the macros that are defined before them.
-use Rattle.std.proofs.Common.{◌≡◌, ℕ, zero, suc, ◌+◌, ◌-◌, ◌<◌, ◌≤◌, Result, Ok, List, [], ◌∷◌, ◌++◌, length, map, take, drop, get_or, refl, ap, sym, ◌∙◌, subst, add-one, arith}
+use Rattle.std.proofs.Common.{◌≡◌, ℕ, zero, suc, ◌+◌, ◌-◌, ◌<◌, ◌≤◌, Ok, List, [], ◌∷◌, ◌++◌, length, map, take, drop, get_or, refl, ap, sym, ◌∙◌, add-one, arith}
 use Rattle.bits_core.specs.declared.names.File.{File}
 use Rattle.vl_lex.specs.declared.source.Source.{Source}
 use Rattle.vl_lex.specs.Sources.{file_of, files_of}

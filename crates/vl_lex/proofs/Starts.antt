@@ -1,8 +1,7 @@
 -- A walk from its start, and from where it asked for a file.
-use Rattle.std.proofs.Common.{◌≡◌, ℕ, zero, suc, ◌+◌, ◌-◌, ◌<◌, ◌≤◌, ◌^◌, nat_lt, Bool, true, false, if◌then◌else◌, Option, Some, None, Result, Ok, Err, List, [], ◌∷◌, ◌++◌, length, map, take, get_or, refl, ap, sym, ◌∙◌, subst, arith}
+use Rattle.std.proofs.Common.{◌≡◌, ℕ, zero, suc, ◌+◌, ◌-◌, ◌<◌, ◌≤◌, ◌^◌, nat_lt, true, false, Ok, Err, List, [], ◌∷◌, ◌++◌, length, map, get_or, refl, ap, sym, ◌∙◌, subst, arith}
 use Rattle.std.proofs.lemmas.Bool.Decides.{nat_tests}
 use Rattle.bits_core.specs.declared.names.File.{File}
-use Rattle.vl_tree.specs.declared.tokens.Token.{Token}
 use Rattle.vl_tree.specs.declared.faults.Code.TheVariants as code
 use Rattle.vl_tree.specs.declared.faults.Stop.{Stop}
 use Rattle.vl_tree.specs.declared.faults.Stop.TheVariants as stop
@@ -10,10 +9,10 @@ use Rattle.vl_lex.specs.declared.source.Source.{Source}
 use Rattle.vl_lex.specs.declared.gate.Halt.{Halt}
 use Rattle.vl_lex.specs.declared.gate.Halt.TheVariants as h
 use Rattle.vl_lex.specs.Bytes.{Text}
-use Rattle.vl_lex.specs.Lexed.{Seen, view}
+use Rattle.vl_lex.specs.Lexed.{Seen}
 use Rattle.vl_lex.specs.Gate.{Reached, and_then, Ends}
 use Rattle.vl_lex.specs.Sources.{AreSmall, file_of, files_of}
-use Rattle.vl_lex.specs.Walk.{SState, bytes_of, walked_file, walked_sources, finished, kept, walk_all, named_sources, predefined, start, most_files, KeepsTokens}
+use Rattle.vl_lex.specs.Walk.{SState, walked_file, walked_sources, finished, kept, walk_all, named_sources, predefined, start, most_files}
 use Rattle.vl_lex.specs.Paused.{SOpen, opens_view, walked_open, resumed, remaining}
 use denote.Ref.{Bor}
 use Rattle.std.specs.Global.{Vec}

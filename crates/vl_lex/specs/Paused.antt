@@ -1,6 +1,5 @@
 -- What is left of a walk that stopped where a file was asked for.
 use Rattle.std.specs.Prelude.{◌≡◌, ℕ, ◌-◌, Result, Ok, Err, List, [], ◌∷◌, ◌++◌, drop, map}
-use denote.Ref.{Bor}
 use Rattle.bits_core.specs.declared.names.File.{File}
 use Rattle.vl_tree.specs.declared.faults.Code.TheVariants as code
 use Rattle.vl_tree.specs.declared.faults.Stop.{Stop}
@@ -9,10 +8,9 @@ use Rattle.vl_lex.specs.declared.gate.Halt.TheVariants as h
 use Rattle.vl_lex.specs.declared.opened.Open.{Open}
 use Rattle.vl_lex.specs.declared.opened.Passed.{Passed}
 use Rattle.vl_lex.specs.declared.opened.Passed.TheVariants as p
-use Rattle.vl_lex.specs.Bytes.{Text}
 use Rattle.vl_lex.specs.Lexed.{Seen, Placed, placed}
 use Rattle.vl_lex.specs.Gate.{Reached, and_then, Ends, fault_at}
-use Rattle.vl_lex.specs.Walk.{SState, SBranches, branches_view, walked, inner_of, walked_sources, finished, kept}
+use Rattle.vl_lex.specs.Walk.{SState, SBranches, branches_view, walked, inner_of, walked_sources, finished}
 
 -- an open file: the levels that are left in it, the fault of a branch that is open at its end, its branches, and its tokens that are still to be walked
 pub record SOpen : Type 0 where

@@ -1,11 +1,9 @@
 -- What a walk answers that goes on where it asked for a file.
 use Rattle.std.specs.Prelude.{◌≡◌, ℕ, ◌-◌, Result, Ok, Err, List, ◌++◌, map}
-use denote.Ref.{Bor}
 use Rattle.bits_core.specs.declared.names.File.{File}
 use Rattle.vl_tree.specs.declared.faults.Stop.{Stop}
 use Rattle.vl_tree.specs.declared.faults.Stop.TheVariants as stop
 use Rattle.vl_lex.specs.declared.gate.Halt.TheVariants as h
-use Rattle.vl_lex.specs.declared.asking.Asking.{Asking}
 use Rattle.vl_lex.specs.declared.opened.Passed.{Passed}
 use Rattle.vl_lex.specs.declared.opened.Passed.TheVariants as p
 use Rattle.vl_lex.specs.declared.preprocessor.Walked.{Walked}

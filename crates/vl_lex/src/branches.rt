@@ -26,6 +26,7 @@ pub struct Branches {
 }
 
 impl Branches {
+    /// No branch is open.
     pub fn new(alloc: Global) -> Branches
         ensures { spec.branches_view result ≡ spec.no_branches }
     {
@@ -83,6 +84,7 @@ impl Branches {
     }
 }
 
+/// A name that is not escaped.
 pub fn is_name_kind(kind: TokenKind) -> bool
     ensures { result ≡ spec.is_name_kind kind }
 {

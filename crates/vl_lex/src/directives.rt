@@ -31,6 +31,7 @@ fn is_name(text: &[u8], word: &[u8]) -> bool
     text == word
 }
 
+/// A backquote with a name.
 pub fn is_directive(kind: TokenKind) -> bool
     ensures { result ≡ spec.is_directive kind }
 {

@@ -1,9 +1,11 @@
-ghost use Rattle.std.specs.Prelude.{◌≡◌, ◌<◌, map, Some, None, OnOk, OnErr, OnSome, IfOk, IfErr};
+ghost use Rattle.std.specs.Prelude.{◌≡◌, ◌<◌, ◌+◌, [], ◌∷◌, map, Some, None, OnOk, OnErr, OnSome, IfOk, IfErr};
 ghost use Rattle.vl_lex.specs.Lexed.{view};
-ghost use Rattle.vl_lex.specs.Gate.{Gives, IsReason, gate_view, halt_reason};
+ghost use Rattle.vl_lex.specs.Gate.{Gives, IsReason, and_then, gate_view, halt_reason};
+ghost use Rattle.vl_lex.specs.Calls as calling;
 ghost use Rattle.vl_lex.specs.Macros as spec;
 
 use crate::bytes::rest_from;
+use crate::calls::{Call, open};
 use crate::directives::{Directive, directive_of, is_directive};
 use crate::gate::{Gate, Halt, fault_at};
 use crate::macros::Macros;
@@ -93,28 +95,87 @@ fn called_body<'f>(
     Err(halt(gate, expansion_fault(token)))
 }
 
-/// The tokens of a body go through the gate, each macro in it expanded. At most `depth` macros nest, which is no less than the macros that are defined.
+/// A token of a body: it goes through the gate, or the body of the macro that it names is opened.
+fn expand_token<'f>(
+    gate: &mut Gate<'f>,
+    macros: &mut Macros<'f>,
+    calls: &mut Vec<Call<'f>>,
+    levels: usize,
+    implicit: bool,
+    token: &Token<'f>,
+) -> Result<(), Halt>
+    ensures turns { calling.Turns result (calling.unwound implicit (spec.look macros.new) (calling.calls_view calls.new.items) (gate_view gate.new)) (and_then (spec.body_token levels (spec.look macros.old) implicit (view token.now) (gate_view gate.old)) (calling.unwound implicit (spec.look macros.old) (calling.calls_view calls.old.items))) }
+    ensures still { OnOk result (calling.table_behind (spec.look macros.new) (calling.calls_view calls.new.items) ≡ calling.table_behind (spec.look macros.old) (calling.calls_view calls.old.items)) }
+    ensures fewer { OnOk result (calling.turns_left (spec.look macros.new) (calling.calls_view calls.new.items) < calling.turns_of levels (spec.look macros.old) (view token.now) + calling.turns_left (spec.look macros.old) (calling.calls_view calls.old.items)) }
+{
+    if !is_directive(token.kind) {
+        return gate.feed(marked(token, implicit));
+    }
+    let body = match called_body(gate, macros, levels, token) {
+        Ok(body) => body,
+        Err(halt) => return Err(halt),
+    };
+    let call = Call {
+        levels: levels - 1,
+        name: directive_name(token),
+        body,
+        at: 0,
+    };
+    open(calls, call)?;
+    Ok(())
+}
+
+/// A turn of the innermost body: its next token, or its end, behind which its macro is defined again.
+fn turn<'f>(
+    gate: &mut Gate<'f>,
+    macros: &mut Macros<'f>,
+    calls: &mut Vec<Call<'f>>,
+    implicit: bool,
+    inner: Call<'f>,
+) -> Result<(), Halt>
+    ensures turns { calling.Turns result (calling.unwound implicit (spec.look macros.new) (calling.calls_view calls.new.items) (gate_view gate.new)) (calling.unwound implicit (spec.look macros.old) (calling.call_view inner.entry ∷ calling.calls_view calls.old.items) (gate_view gate.old)) }
+    ensures still { OnOk result (calling.table_behind (spec.look macros.new) (calling.calls_view calls.new.items) ≡ calling.table_behind (spec.look macros.old) (calling.call_view inner.entry ∷ calling.calls_view calls.old.items)) }
+    ensures fewer { OnOk result (calling.turns_left (spec.look macros.new) (calling.calls_view calls.new.items) < calling.turns_left (spec.look macros.old) (calling.call_view inner.entry ∷ calling.calls_view calls.old.items)) }
+{
+    let Call {
+        levels,
+        name,
+        body,
+        at,
+    } = inner;
+    if at >= body.len() {
+        macros.define(name, body)?;
+        return Ok(());
+    }
+    let token = *body.get(at);
+    let behind = Call {
+        levels,
+        name,
+        body,
+        at: at + 1,
+    };
+    open(calls, behind)?;
+    expand_token(gate, macros, calls, levels, implicit, &token)
+}
+
+/// A token goes through the gate, or the tokens of the macro that it names do, each macro among them expanded. At most `levels` macros nest, which is no less than the macros that are defined.
+/// How deep they nest takes no stack. Linear in the tokens of the macros that are used.
 pub fn expand<'f>(
     gate: &mut Gate<'f>,
     macros: &mut Macros<'f>,
-    depth: usize,
+    levels: usize,
     implicit: bool,
-    body: &TokenList<'f>,
+    token: &Token<'f>,
 ) -> Result<(), Halt>
-    ensures gives { Gives result (gate_view gate.new) (spec.expanded depth (spec.look macros.old) implicit (map view body.now) (gate_view gate.old)) }
+    ensures gives { Gives result (gate_view gate.new) (spec.expanded levels (spec.look macros.old) implicit (view token.now ∷ []) (gate_view gate.old)) }
     ensures still { OnOk result (spec.look macros.new ≡ spec.look macros.old) }
 {
-    for token in body.as_slice() {
-        if is_directive(token.kind) {
-            let inner = match called_body(gate, macros, depth, token) {
-                Ok(inner) => inner,
-                Err(halt) => return Err(halt),
-            };
-            if let Err(halt) = expand(gate, macros, depth - 1, implicit, &inner) {
-                return Err(halt);
-            }
-            macros.define(directive_name(token), inner)?;
-        } else if let Err(halt) = gate.feed(marked(token, implicit)) {
+    let mut calls = Vec::new(gate.alloc);
+    if let Err(halt) = expand_token(gate, macros, &mut calls, levels, implicit, token) {
+        return Err(halt);
+    }
+    while let Some(inner) = calls.pop() {
+        if let Err(halt) = turn(gate, macros, &mut calls, implicit, inner) {
             return Err(halt);
         }
     }

@@ -25,6 +25,7 @@ pub struct Cursor {
     pub row: u32,
 }
 
+/// How many newlines a text has. Linear.
 #[tactic(auto, using(crate::proofs::Counts::counted))]
 pub fn newlines(text: &[u8]) -> usize
     ensures value { result ≡ spec.newlines text.now }

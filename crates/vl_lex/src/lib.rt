@@ -5,6 +5,7 @@ mod asked;
 mod asking;
 mod branches;
 pub mod bytes;
+mod calls;
 mod directives;
 mod expansion;
 mod files;

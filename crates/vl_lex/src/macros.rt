@@ -15,6 +15,7 @@ pub struct Macros<'f> {
 }
 
 impl<'f> Macros<'f> {
+    /// No macro is defined.
     pub fn new(alloc: Global) -> Macros<'f>
         ensures { spec.look result ≡ (λ q. None) }
     {
@@ -41,6 +42,7 @@ impl<'f> Macros<'f> {
         self.bodies.remove(name)
     }
 
+    /// Whether a name is that of a macro.
     pub fn is_defined(&self, name: &'f [u8]) -> bool
         ensures { result ≡ is_some (spec.look self.now name.entry.now) }
     {

@@ -1,4 +1,4 @@
-ghost use Rattle.std.specs.Prelude.{◌≡◌, ◌<◌, ◌+◌, ◌*◌, ◌^◌, nat_le, length, drop, take};
+ghost use Rattle.std.specs.Prelude.{◌≡◌, ◌<◌, ◌+◌, ◌*◌, ◌^◌, IsTrue, nat_le, length, drop, take};
 ghost use Rattle.std.specs.Option.{SomeIff};
 ghost use Rattle.std.specs.List.{prefix_len, list_all};
 ghost use Rattle.vl_lex.specs.Bytes as byte_kinds;
@@ -22,6 +22,7 @@ fn digit_value(byte: u8) -> u8
     }
 }
 
+/// A digit whose bits are free: `z` in either case, or `?`.
 pub fn is_free(byte: u8) -> bool
     ensures { result ≡ spec.is_free byte }
 {
@@ -134,6 +135,7 @@ fn digits_are_bad(base: u8, digits: &[u8]) -> bool
         || is_too_large(base, digits)
 }
 
+/// What stands behind white space and joined newlines.
 pub fn behind_blanks(bytes: &[u8]) -> &[u8]
     ensures { result.now ≡ spec.behind_blanks bytes.now }
 {
@@ -146,37 +148,109 @@ fn between_len(bytes: &[u8]) -> usize
     bytes.iter().take_while(|byte| !is_based(**byte)).count()
 }
 
+/// How many bytes stand before the quote of a number; all where there is none.
 pub fn size_len(bytes: &[u8]) -> usize
     ensures { result ≡ prefix_len spec.before_tick bytes.now }
 {
     bytes.iter().take_while(|byte| **byte != b'\'').count()
 }
 
-fn base_is_bad(bytes: &[u8]) -> bool
-    ensures { result ≡ spec.base_is_bad bytes.now }
+/// Whether a number has a base, behind a quote. Linear in the number, as all that follows.
+pub fn has_base(text: &[u8]) -> bool
+    ensures { result ≡ spec.has_base text.now }
 {
-    digits_are_bad(base_of(first(bytes)), behind_blanks(rest_from(bytes, 1)))
+    size_len(text) < text.len()
 }
 
-fn based_is_bad(bytes: &[u8]) -> bool
-    ensures { result ≡ spec.based_is_bad bytes.now }
+fn size_text(text: &[u8]) -> &[u8]
+    ensures { result.now ≡ spec.size_text text.now }
+{
+    front(text, size_len(text))
+}
+
+fn mark_text(text: &[u8]) -> &[u8]
+    requires { IsTrue (spec.has_base text.now) }
+    ensures { result.now ≡ spec.mark_text text.now }
+{
+    rest_from(text, size_len(text) + 1)
+}
+
+/// Whether a number has a sign: one without a base has, one with a base where an `s` stands behind its quote.
+pub fn is_signed(text: &[u8]) -> bool
+    ensures { result ≡ spec.is_signed text.now }
+{
+    if has_base(text) {
+        is_sign(first(mark_text(text)))
+    } else {
+        true
+    }
+}
+
+fn behind_sign(bytes: &[u8]) -> &[u8]
+    ensures { result.now ≡ spec.behind_sign bytes.now }
 {
     if is_sign(first(bytes)) {
-        base_is_bad(rest_from(bytes, 1))
+        rest_from(bytes, 1)
     } else {
-        base_is_bad(bytes)
+        bytes
+    }
+}
+
+fn base_text(text: &[u8]) -> &[u8]
+    requires { IsTrue (spec.has_base text.now) }
+    ensures { result.now ≡ spec.base_text text.now }
+{
+    behind_sign(mark_text(text))
+}
+
+/// The base of a number.
+pub fn base_in(text: &[u8]) -> u8
+    ensures value { result ≡ spec.base_in text.now }
+    ensures there { 0 < result }
+{
+    if has_base(text) {
+        base_of(first(base_text(text)))
+    } else {
+        10
+    }
+}
+
+/// The digits of a number.
+pub fn digits_in(text: &[u8]) -> &[u8]
+    ensures { result.now ≡ spec.digits_in text.now }
+{
+    if has_base(text) {
+        behind_blanks(rest_from(base_text(text), 1))
+    } else {
+        text
+    }
+}
+
+/// The number that the digits say, the free and unknown ones as 0; none from 2^128 on.
+pub fn value_in(text: &[u8]) -> Option<u128>
+    ensures { SomeIff result (spec.value_in text.now < 2 ^ 128) (spec.value_in text.now) }
+{
+    value_of(base_in(text), digits_in(text))
+}
+
+/// How many bits a digit of a base stands for.
+pub fn digit_size(base: u8) -> u8
+    ensures { result ≡ spec.digit_size base }
+{
+    match base {
+        2 => 1,
+        8 => 3,
+        _ => 4,
     }
 }
 
 /// Whether a number is faulty: by its size (none, or above 65,536), by its digits (none, a first `_`, or one that its base lacks), or by a value past 128 bits.
-/// Linear in the number.
 #[tactic(auto, unfolding(crate::specs::Numbers::is_bad_number))]
 pub fn is_bad_number(text: &[u8]) -> bool
     ensures { result ≡ spec.is_bad_number text.now }
 {
-    let size = size_len(text);
-    if size < text.len() {
-        size_is_bad(front(text, size)) || based_is_bad(rest_from(text, size + 1))
+    if has_base(text) {
+        size_is_bad(size_text(text)) || digits_are_bad(base_in(text), digits_in(text))
     } else {
         is_too_large(10, text)
     }

@@ -35,6 +35,7 @@ pub struct Turned {
     pub enter: Option<usize>,
 }
 
+/// So many further tokens were taken, and no file is entered.
 pub fn took(more: usize) -> Turned
     ensures { (result.more ≡ more) × (result.enter ≡ None) }
 {
@@ -105,6 +106,7 @@ impl<'f> State<'f> {
         }
     }
 
+    /// A macro is undefined: its name stands next on the line.
     #[tactic(auto, unfolding(crate::specs::Walk::undef_turn))]
     pub fn undef(&mut self, token: &Lined<'f>, rest: &[Lined<'f>]) -> Result<Turned, Halt>
         ensures { spec.Acts result (spec.state_view self.new) (spec.undef_turn (spec.state_view self.old) (placed token.now) (map placed rest.now)) }
@@ -118,6 +120,7 @@ impl<'f> State<'f> {
         }
     }
 
+    /// Undeclared names are nets behind `wire`, and none behind `none`; another word is refused.
     #[tactic(auto, unfolding(crate::specs::Walk::nettype_turn))]
     pub fn nettype(&mut self, token: &Lined<'f>, rest: &[Lined<'f>]) -> Result<Turned, Halt>
         ensures { spec.Acts result (spec.state_view self.new) (spec.nettype_turn (spec.state_view self.old) (placed token.now) (map placed rest.now)) }
@@ -138,6 +141,7 @@ impl<'f> State<'f> {
         }
     }
 
+    /// A macro is defined: its name stands next on the line, its body is the rest of the line.
     #[tactic(auto, unfolding(crate::specs::Walk::define_turn))]
     pub fn define(&mut self, token: &Lined<'f>, rest: &[Lined<'f>]) -> Result<Turned, Halt>
         ensures { spec.Acts result (spec.state_view self.new) (spec.define_turn (spec.state_view self.old) (placed token.now) (map placed rest.now)) }
@@ -169,24 +173,24 @@ impl<'f> State<'f> {
         Ok(())
     }
 
+    /// The use of a macro.
     #[tactic(auto, unfolding(crate::specs::Walk::macro_turn))]
     pub fn use_macro(&mut self, token: &Lined<'f>) -> Result<Turned, Halt>
         ensures { spec.Acts result (spec.state_view self.new) (spec.macro_turn (spec.state_view self.old) (placed token.now)) }
     {
-        let mut used = Items::new(self.gate.alloc);
-        used.push(token.token)?;
         match expand(
             &mut self.gate,
             &mut self.macros,
             self.defined,
             self.implicit,
-            &used,
+            &token.token,
         ) {
             Ok(()) => Ok(took(0)),
             Err(halt) => Err(halt),
         }
     }
 
+    /// Whether a file of this name was named before.
     #[tactic(auto, using(crate::proofs::Rows::any_now))]
     pub fn is_listed(&self, name: &[u8]) -> bool
         ensures { result ≡ list_any (λ n. bytes_eq n name.now) (spec.state_view self.now).listed }
@@ -224,6 +228,7 @@ impl<'f> State<'f> {
         self.enter(files, name)
     }
 
+    /// A file is included: its name stands in quotes next on the line, and a level is left for it.
     #[tactic(auto, unfolding(crate::specs::Walk::include_turn))]
     pub fn include(
         &mut self,
@@ -283,6 +288,7 @@ pub fn find_file(files: &[Source<'_>], name: &[u8]) -> Option<usize>
     None
 }
 
+/// A text between quotes.
 pub fn is_quoted(kind: TokenKind) -> bool
     ensures { result ≡ spec.is_quoted kind }
 {
@@ -309,6 +315,7 @@ fn is_utf8(bytes: &[u8]) -> bool
     }
 }
 
+/// Whether bytes may be the name of a file: some, and text in UTF-8.
 pub fn is_file_name(name: &[u8]) -> bool
     ensures { result ≡ spec.is_file_name name.now }
 {

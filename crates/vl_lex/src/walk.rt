@@ -190,6 +190,7 @@ pub fn reachable(levels: usize, enter: Option<usize>) -> Option<usize>
     if levels == 0 { None } else { enter }
 }
 
+/// The items from a place on, none behind the end.
 pub fn rest_items<'t, 'f>(items: &'t [Lined<'f>], at: usize) -> &'t [Lined<'f>]
     ensures { result.now ≡ drop at items.now }
 {

@@ -1,4 +1,4 @@
-use Rattle.std.proofs.Common.{◌≡◌, ◌+◌, ◌<◌, ◌≤◌, ◌∷◌, ◌++◌, length, drop, get_or, ap, refl, sym, ◌∙◌, arith}
+use Rattle.std.proofs.Common.{◌+◌, ◌<◌, ◌++◌, length, drop, ap, refl, sym, ◌∙◌, arith}
 use Rattle.vl_lex.specs.Walk.{state_view, ended}
 use Rattle.vl_lex.specs.Sources.{files_of}
 use Rattle.vl_lex.specs.Paused.{open_view, opens_view, walked_open, resumed}

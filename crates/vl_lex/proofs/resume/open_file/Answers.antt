@@ -1,4 +1,4 @@
-use Rattle.std.proofs.Common.{◌≡◌, ◌<◌, ◌≤◌, length, ap, refl, sym, ◌∙◌, subst, arith}
+use Rattle.std.proofs.Common.{◌<◌, length, ap, refl, arith}
 use Rattle.vl_lex.specs.Walk.{state_view, with_gate}
 use Rattle.vl_lex.specs.Sources.{files_of}
 use Rattle.vl_lex.proofs.Walks.{walk_refused}
