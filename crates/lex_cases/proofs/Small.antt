@@ -3,6 +3,8 @@ use Rattle.std.proofs.Common.{◌≡◌, ℕ, zero, suc, ◌^◌, ◌<◌, ◌�
 use Rattle.std.specs.List.{list_all}
 use Rattle.std.proofs.lemmas.Bool.Decides.{nat_tests}
 use Rattle.bits_core.specs.declared.names.File.{File}
+use Rattle.vl_lex.specs.declared.source.Source.{Source}
+use Rattle.vl_lex.specs.Sources.{AreSmall, files_of}
 
 both : (a b : Bool) → (a && b) ≡ true → (a ≡ true) × (b ≡ true)
 both true b h = (refl, h)
@@ -12,3 +14,8 @@ pub small_at : (files : List File) (at : ℕ) (other : File) → list_all (λ f.
 small_at [] at other h l = absurd (omega arith)
 small_at (f ∷ fs) zero other h l = let t = (both (nat_le (length f.bytes) (2 ^ 24)) (list_all (λ f. nat_le (length f.bytes) (2 ^ 24)) fs) h).0 in grind (arith, nat_tests)
 small_at (f ∷ fs) (suc at) other h l = small_at fs at other (both (nat_le (length f.bytes) (2 ^ 24)) (list_all (λ f. nat_le (length f.bytes) (2 ^ 24)) fs) h).1 (omega arith)
+
+pub small_sources : (sources : List Source) → list_all (λ s. nat_le (length s.bytes.now) (2 ^ 24)) sources ≡ true → AreSmall (files_of sources)
+small_sources [] h at l = absurd (omega (arith, l))
+small_sources (s ∷ ss) h zero l = let t = (both (nat_le (length s.bytes.now) (2 ^ 24)) (list_all (λ s. nat_le (length s.bytes.now) (2 ^ 24)) ss) h).0 in grind (arith, nat_tests)
+small_sources (s ∷ ss) h (suc at) l = small_sources ss (both (nat_le (length s.bytes.now) (2 ^ 24)) (list_all (λ s. nat_le (length s.bytes.now) (2 ^ 24)) ss) h).1 at (omega (arith, l))

@@ -2,7 +2,9 @@ ghost use Rattle.std.specs.Prelude.{◌≡◌, nat_le, ◌≤◌, ◌<◌, ◌^�
 ghost use Rattle.bits_core.specs.declared.names.File.{File};
 
 use crate::answers::{put_answer, put_lexed};
+use crate::asking::{are_same, walk_asking};
 use bits_core::{File, Items, NameList};
+use case_lines::Cases;
 use std::alloc::{AllocError, Global};
 use std::mem;
 use vl_lex::{Files, lex, preprocess};
@@ -51,15 +53,17 @@ fn times<'t>(words: &'t str) -> (usize, &'t str) {
     }
 }
 
-// A text with a number for each `#`.
+// A text with a number for each `#`, and the number before it for each `%`.
 fn numbered(alloc: Global, text: &str, number: usize) -> Result<Vec<u8>, AllocError> {
+    let before = number.saturating_sub(1);
     let digits = format!(in alloc; "{number}")?;
+    let digits_before = format!(in alloc; "{before}")?;
     let mut line = Vec::new(alloc);
     for byte in text.as_bytes() {
-        if *byte == b'#' {
-            line.extend_from_slice(digits.as_bytes())?;
-        } else {
-            line.push(*byte)?;
+        match *byte {
+            b'#' => line.extend_from_slice(digits.as_bytes())?,
+            b'%' => line.extend_from_slice(digits_before.as_bytes())?,
+            other => line.push(other)?,
         }
     }
     Ok(line)
@@ -107,7 +111,7 @@ impl Case {
         Ok(())
     }
 
-    // A line many times, each with its number from 0 for each `#`.
+    // A line many times, each with its number from 0 for each `#`, and with the number before it for each `%`.
     fn take_lines(&mut self, words: &str) -> Result<(), AllocError> {
         let (count, text) = times(words);
         for number in 0..count {
@@ -129,7 +133,7 @@ impl Case {
         Ok(())
     }
 
-    /// The answer for the files so far, of which the first are named; the case is then empty.
+    /// The answer for the files so far, of which the first are named, and whether a walk that asks for the others gives another; the case is then empty.
     pub fn run(&mut self, named: usize, defines: NameList) -> Result<Vec<u8>, AllocError> {
         self.close()?;
         let mut out = mem::replace(&mut self.title, Vec::new(self.alloc));
@@ -138,6 +142,9 @@ impl Case {
             let files = Files { list, named };
             let answer = preprocess(self.alloc, &files, &defines);
             put_answer(self.alloc, &mut out, &answer)?;
+            if !are_same(&answer, &walk_asking(self.alloc, &files, &defines)) {
+                out.extend_from_slice(b" and another where it asks")?;
+            }
         } else {
             out.extend_from_slice(b"no case")?;
         }
@@ -173,10 +180,12 @@ impl Case {
         }
         Ok(out)
     }
+}
 
+impl Cases for Case {
     /// A line of a table: `@case` and a title, `@file` and a name, `@hex` and bytes of the file, `@lines` or `@files` with a number and a text, or a line of the file that is open.
     /// `@lex` gives what the lexer makes of that file by itself, `@run` the answer for all; behind it stand how many of the files are named, where not all are, and the macros that are defined.
-    pub fn take_line(&mut self, line: &str) -> Result<Option<Vec<u8>>, AllocError> {
+    fn answer(&mut self, _alloc: Global, line: &str) -> Result<Option<Vec<u8>>, AllocError> {
         if let Some(title) = line.strip_prefix("@case ") {
             self.title = title.as_bytes().to_vec(self.alloc)?;
             self.title.extend_from_slice(b": ")?;

@@ -2,13 +2,14 @@
 #![tactic(auto)]
 
 mod answers;
+mod asking;
 mod cases;
 
-use answers::put_answer;
 use bits_core::Items;
+use case_lines::answer_lines;
 use cases::Case;
 use std::alloc::{Alloc, Global};
-use std::io::{BufRead, BufReader, Write};
+use std::io::Write;
 use std::rt::Files;
 use std::{env, fs, io};
 
@@ -19,23 +20,14 @@ fn measure<R: Files + Alloc<A = Global>>(rt: &R, alloc: Global, name: &str) -> i
     Ok(case.run(1, Items::new(alloc))?)
 }
 
-fn put_line<W: Write>(writer: &mut W, mut line: Vec<u8>) -> io::Result<()> {
-    line.push(b'\n')?;
-    writer.write_all(line.as_slice())
-}
-
 fn main(rt: HostRuntime) -> io::Result<()> {
     let alloc = rt.alloc();
     let mut writer = io::writer(&rt);
     if let Some(name) = env::args(&rt)?.nth(1) {
-        let answer = measure(&rt, alloc, name.as_str())?;
-        return put_line(&mut writer, answer);
+        let mut answer = measure(&rt, alloc, name.as_str())?;
+        answer.push(b'\n')?;
+        return writer.write_all(answer.as_slice());
     }
     let mut case = Case::new(alloc);
-    for line in BufReader::new(alloc, rt.reader())?.lines(alloc) {
-        if let Some(answer) = case.take_line(line?.as_str())? {
-            put_line(&mut writer, answer)?;
-        }
-    }
-    Ok(())
+    answer_lines(alloc, rt.reader(), &mut case, &mut writer)
 }
