@@ -45,7 +45,7 @@ module _ (cs : List (List Lit)) (leaves size k : ℕ) (t : Trail) (w : Watches) 
         refuted_by at.clause at.there
         (Each-weaker (λ l. l ≡ p.first) (λ l. is_false (reads t.values.items) l ≡ true) (λ l e. ap (is_false (reads t.values.items)) e ∙ off) at.clause (at.pair.alone same))
 
-    module _ (same : p.first ≡ p.second) (not_false : is_false (reads t.values.items) p.first ≡ false) (not_true : is_true (reads t.values.items) p.first ≡ false) (t' : Trail) (me : t'.marks.items ≡ t.marks.items ++ record { lit = p.first; reason = k + 1 } ∷ []) (ve : t'.values.items ≡ set t.values.items (variable_of p.first) (Some (is_positive p.first))) (de : t'.done ≡ t.done) (ne : t'.next ≡ t.next) where
+    module _ (same : p.first ≡ p.second) (not_false : is_false (reads t.values.items) p.first ≡ false) (not_true : is_true (reads t.values.items) p.first ≡ false) (t' : Trail) (me : t'.marks ≡ t.marks ++ record { lit = p.first; reason = k + 1 } ∷ []) (ve : t'.values.items ≡ set t.values.items (variable_of p.first) (Some (is_positive p.first))) (de : t'.done ≡ t.done) (ne : t'.next ≡ t.next) where
       settle_unit : standing_of (reads t.values.items) at.clause ≡ UnitAt p.first
       settle_unit =
           unit_at (reads t.values.items) at.clause p.first
@@ -54,7 +54,7 @@ module _ (cs : List (List Lit)) (leaves size k : ℕ) (t : Trail) (w : Watches) 
       pub begun_settled : IsBegun cs leaves size k t' w
       begun_settled = record {
         held = held_forced cs leaves size k t t' w b.held k at.clause p.first at.there settle_unit not_true settle_room me ve de ne;
-        undecided = (forced cs leaves k at.clause p.first t.marks.items t'.marks.items t.values.items t'.values.items b.held.synced at.there settle_unit not_true settle_room me ve).decision ∙ b.undecided;
+        undecided = (forced cs leaves k at.clause p.first t.marks t'.marks t.values.items t'.values.items b.held.synced at.there settle_unit not_true settle_room me ve).decision ∙ b.undecided;
         first = de ∙ b.first;
       }
 
@@ -62,10 +62,10 @@ module _ (cs : List (List Lit)) (leaves size k : ℕ) (t : Trail) (w : Watches) 
       settled_true =
           ap (λ (a : Values). is_true a p.first) (sym (forced_values cs leaves size k t t' w b.held k at.clause p.first at.there settle_unit not_true settle_room me ve de ne)) ∙ true_here (reads t.values.items) p.first
 
-    none_first : first_values t.done t.marks.items ≡ no_values
-    none_first = ap (λ (n : ℕ). first_values n t.marks.items) b.first
+    none_first : first_values t.done t.marks ≡ no_values
+    none_first = ap (λ (n : ℕ). first_values n t.marks) b.first
 
-    begin_watched : (p.first ≡ p.second → ⊥) ⊎ (is_true (reads t.values.items) p.first ≡ true) → IsWatched (first_values t.done t.marks.items) (reads t.values.items) at.clause p
+    begin_watched : (p.first ≡ p.second → ⊥) ⊎ (is_true (reads t.values.items) p.first ≡ true) → IsWatched (first_values t.done t.marks) (reads t.values.items) at.clause p
     begin_watched two = record {
       first_there = at.pair.first;
       second_there = at.pair.second;
@@ -76,7 +76,7 @@ module _ (cs : List (List Lit)) (leaves size k : ℕ) (t : Trail) (w : Watches) 
 
     pub begun_more : (p.first ≡ p.second → ⊥) ⊎ (is_true (reads t.values.items) p.first ≡ true) → (w' : Watches) → w'.lists.items ≡ listed_more (listed_more w.lists.items (code_of p.first) (length w.pairs.items)) (code_of p.second) (length w.pairs.items) → w'.pairs.items ≡ w.pairs.items ++ p ∷ [] → IsBegun cs leaves size (k + 1) t w'
     begun_more two w' le pe = record {
-      held = held_add cs leaves size k t w w' at.clause p b.held at.there begin_first begin_second (begin_watched two) (cuts_none (λ v. IsWatched v v at.clause p) (reverse t.marks.items) b.undecided) le pe;
+      held = held_add cs leaves size k t w w' at.clause p b.held at.there begin_first begin_second (begin_watched two) (cuts_none (λ v. IsWatched v v at.clause p) (reverse t.marks) b.undecided) le pe;
       undecided = b.undecided;
       first = b.first;
     }

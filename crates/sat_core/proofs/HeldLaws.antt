@@ -39,7 +39,7 @@ first_push n marks marks' m le e =
     ap (λ (ms : List Mark). assigned (reverse ms)) (sym (ap (take n) e ∙ take-append-le n marks (m ∷ []) le))
 
 -- a forced literal is made true
-module _ (cs : List (List Lit)) (leaves size count : ℕ) (t t' : Trail) (w : Watches) (h : IsHeld cs leaves size count t w) (k : ℕ) (c : List Lit) (l : Lit) (there : slice_get cs k ≡ Some c) (unit : standing_of (reads t.values.items) c ≡ UnitAt l) (off : is_true (reads t.values.items) l ≡ false) (room : variable_of l < length t.values.items) (me : t'.marks.items ≡ t.marks.items ++ record { lit = l; reason = k + 1 } ∷ []) (ve : t'.values.items ≡ set t.values.items (variable_of l) (Some (is_positive l))) (de : t'.done ≡ t.done) (ne : t'.next ≡ t.next) where
+module _ (cs : List (List Lit)) (leaves size count : ℕ) (t t' : Trail) (w : Watches) (h : IsHeld cs leaves size count t w) (k : ℕ) (c : List Lit) (l : Lit) (there : slice_get cs k ≡ Some c) (unit : standing_of (reads t.values.items) c ≡ UnitAt l) (off : is_true (reads t.values.items) l ≡ false) (room : variable_of l < length t.values.items) (me : t'.marks ≡ t.marks ++ record { lit = l; reason = k + 1 } ∷ []) (ve : t'.values.items ≡ set t.values.items (variable_of l) (Some (is_positive l))) (de : t'.done ≡ t.done) (ne : t'.next ≡ t.next) where
   forced_open : reads t.values.items (variable_of l) ≡ None
   forced_open = open_at (reads t.values.items) l (unit_not_false (reads t.values.items) c l unit) off
 
@@ -49,15 +49,15 @@ module _ (cs : List (List Lit)) (leaves size count : ℕ) (t t' : Trail) (w : Wa
   pub forced_more : Within (reads t.values.items) (reads t'.values.items)
   forced_more = subst (Within (reads t.values.items)) forced_values (within_more (reads t.values.items) l forced_open)
 
-  pub forced_first : (n : ℕ) → n ≤ length t.marks.items → first_values n t.marks.items ≡ first_values n t'.marks.items
-  forced_first n le = first_push n t.marks.items t'.marks.items _ le me
+  pub forced_first : (n : ℕ) → n ≤ length t.marks → first_values n t.marks ≡ first_values n t'.marks
+  forced_first n le = first_push n t.marks t'.marks _ le me
 
-  forced_length : length t'.marks.items ≡ length t.marks.items + 1
-  forced_length = ap length me ∙ length-append t.marks.items (record { lit = l; reason = k + 1 } ∷ [])
+  forced_length : length t'.marks ≡ length t.marks + 1
+  forced_length = ap length me ∙ length-append t.marks (record { lit = l; reason = k + 1 } ∷ [])
 
   pub held_forced : IsHeld cs leaves size count t' w
   held_forced =
-      let g = forced cs leaves k c l t.marks.items t'.marks.items t.values.items t'.values.items h.synced there unit off room me ve in
+      let g = forced cs leaves k c l t.marks t'.marks t.values.items t'.values.items h.synced there unit off room me ve in
       let less = open_less t.values.items (variable_of l) (is_positive l) room forced_open in
       let P : Values → Type 0 = λ v. AreWatched v v cs w.pairs.items in
       record {
@@ -70,11 +70,11 @@ module _ (cs : List (List Lit)) (leaves size count : ℕ) (t t' : Trail) (w : Wa
         few = h.few;
         room = h.room;
         listed = h.listed;
-        watched = watched_at (first_values t.done t.marks.items) (first_values t'.done t'.marks.items) (reads t'.values.items) (reads t'.values.items) cs w.pairs.items
-            (forced_first t.done h.done ∙ ap (λ (n : ℕ). first_values n t'.marks.items) (sym de)) refl
-            (λ j d p x y. watched_more (first_values t.done t.marks.items) (reads t.values.items) (reads t'.values.items) d p forced_more (h.watched j d p x y));
-        cuts = subst (AtCuts P) (sym (ap reverse me ∙ newest t.marks.items (record { lit = l; reason = k + 1 })))
-            (subst (λ (r : ℕ). AtCuts P (record { lit = l; reason = r } ∷ reverse t.marks.items)) (sym (add-one k)) h.cuts);
+        watched = watched_at (first_values t.done t.marks) (first_values t'.done t'.marks) (reads t'.values.items) (reads t'.values.items) cs w.pairs.items
+            (forced_first t.done h.done ∙ ap (λ (n : ℕ). first_values n t'.marks) (sym de)) refl
+            (λ j d p x y. watched_more (first_values t.done t.marks) (reads t.values.items) (reads t'.values.items) d p forced_more (h.watched j d p x y));
+        cuts = subst (AtCuts P) (sym (ap reverse me ∙ newest t.marks (record { lit = l; reason = k + 1 })))
+            (subst (λ (r : ℕ). AtCuts P (record { lit = l; reason = r } ∷ reverse t.marks)) (sym (add-one k)) h.cuts);
         from = omega (arith, ne, h.from);
         upto = omega (arith, ne, h.upto);
         given = λ y p q e. h.given y p (omega (arith, ne)) (none_less (reads t.values.items) (reads t'.values.items) y forced_more e);

@@ -54,7 +54,7 @@ held_clause cs leaves size count t w c h fit =
     record {
       synced = record {
         values_are = h.synced.values_are;
-        trail = trail_more cs c leaves (reverse t.marks.items) h.synced.trail;
+        trail = trail_more cs c leaves (reverse t.marks) h.synced.trail;
         marks_fit = h.synced.marks_fit;
         reasons = λ k d lt. omega (arith, more, h.synced.reasons k d lt);
       };
@@ -66,9 +66,9 @@ held_clause cs leaves size count t w c h fit =
       few = omega (arith, more, few);
       room = h.room;
       listed = h.listed;
-      watched = watched_clause (first_values t.done t.marks.items) a cs c w.pairs.items (omega (arith, h.count_is, few)) h.watched;
-      cuts = cuts_map (λ v. AreWatched v v cs w.pairs.items) (λ v. AreWatched v v (cs ++ c ∷ []) w.pairs.items) cs leaves (reverse t.marks.items) (assigned (reverse t.marks.items)) h.synced.trail
-          (within_same (assigned (reverse t.marks.items))) (λ v in' all. watched_clause v v cs c w.pairs.items (omega (arith, h.count_is, few)) all) h.cuts;
+      watched = watched_clause (first_values t.done t.marks) a cs c w.pairs.items (omega (arith, h.count_is, few)) h.watched;
+      cuts = cuts_map (λ v. AreWatched v v cs w.pairs.items) (λ v. AreWatched v v (cs ++ c ∷ []) w.pairs.items) cs leaves (reverse t.marks) (assigned (reverse t.marks)) h.synced.trail
+          (within_same (assigned (reverse t.marks))) (λ v in' all. watched_clause v v cs c w.pairs.items (omega (arith, h.count_is, few)) all) h.cuts;
       from = h.from;
       upto = h.upto;
       given = h.given;
@@ -89,7 +89,7 @@ cuts_both P Q R [] f h k = tt
 cuts_both P Q R (m ∷ ms) f h k = cut_both P Q R m.reason (assigned ms) (AtCuts P ms) (AtCuts Q ms) (AtCuts R ms) f (cuts_both P Q R ms f) h k
 
 -- one more clause is watched
-pub held_add : (cs : List (List Lit)) (leaves size count : ℕ) (t : Trail) (w w' : Watches) (c : List Lit) (p : Pair) → IsHeld cs leaves size count t w → slice_get cs count ≡ Some c → code_of p.first < length w.lists.items → code_of p.second < length w.lists.items → IsWatched (first_values t.done t.marks.items) (reads t.values.items) c p → AtCuts (λ v. IsWatched v v c p) (reverse t.marks.items) → w'.lists.items ≡ listed_more (listed_more w.lists.items (code_of p.first) (length w.pairs.items)) (code_of p.second) (length w.pairs.items) → w'.pairs.items ≡ w.pairs.items ++ p ∷ [] → IsHeld cs leaves size (count + 1) t w'
+pub held_add : (cs : List (List Lit)) (leaves size count : ℕ) (t : Trail) (w w' : Watches) (c : List Lit) (p : Pair) → IsHeld cs leaves size count t w → slice_get cs count ≡ Some c → code_of p.first < length w.lists.items → code_of p.second < length w.lists.items → IsWatched (first_values t.done t.marks) (reads t.values.items) c p → AtCuts (λ v. IsWatched v v c p) (reverse t.marks) → w'.lists.items ≡ listed_more (listed_more w.lists.items (code_of p.first) (length w.pairs.items)) (code_of p.second) (length w.pairs.items) → w'.pairs.items ≡ w.pairs.items ++ p ∷ [] → IsHeld cs leaves size (count + 1) t w'
 held_add cs leaves size count t w w' c p h there room1 room2 here cuts le pe =
     let n = length w.pairs.items in
     let there' : slice_get cs n ≡ Some c = ap (slice_get cs) h.count_is ∙ there in
@@ -113,8 +113,8 @@ held_add cs leaves size count t w w' c p h there room1 room2 here cuts le pe =
         | inl s ↦ subst (λ (r : Pair). IsOn w'.lists.items r.first k × IsOn w'.lists.items r.second k) s.1 (subst (λ (j : ℕ). IsOn w'.lists.items p.first j × IsOn w'.lists.items p.second j) (sym s.0) (on1, on2))
         | inr old ↦ (kept q.first k (h.listed k q old).0, kept q.second k (h.listed k q old).1)
       ];
-      watched = watched_add (first_values t.done t.marks.items) (reads t.values.items) cs c w.pairs.items w'.pairs.items p pe there' here h.watched;
-      cuts = cuts_both (λ v. AreWatched v v cs w.pairs.items) (λ v. IsWatched v v c p) (λ v. AreWatched v v cs w'.pairs.items) (reverse t.marks.items)
+      watched = watched_add (first_values t.done t.marks) (reads t.values.items) cs c w.pairs.items w'.pairs.items p pe there' here h.watched;
+      cuts = cuts_both (λ v. AreWatched v v cs w.pairs.items) (λ v. IsWatched v v c p) (λ v. AreWatched v v cs w'.pairs.items) (reverse t.marks)
           (λ v all one. watched_add v v cs c w.pairs.items w'.pairs.items p pe there' one all) h.cuts cuts;
       from = h.from;
       upto = h.upto;
@@ -184,9 +184,9 @@ newest_cuts : (cs : List (List Lit)) (leaves : ℕ) (tr : List Mark) (d : Lit) (
 newest_cuts cs leaves [] d ms ok e = absurd cc
 newest_cuts cs leaves (m ∷ xs) d ms ok e = newest_step cs leaves m.lit m.reason xs d ms ok.0 e (newest_cuts cs leaves xs d ms ok.2)
 
-module _ (cs : List (List Lit)) (leaves size : ℕ) (t : Trail) (w : Watches) (h : IsHeld cs leaves size (length cs) t w) (c : List Lit) (tc : IsTraced cs t.marks.items c) (full : 1 ≤ length c) where
+module _ (cs : List (List Lit)) (leaves size : ℕ) (t : Trail) (w : Watches) (h : IsHeld cs leaves size (length cs) t w) (c : List Lit) (tc : IsTraced cs t.marks c) (full : 1 ≤ length c) where
   trail : List Mark
-  trail = reverse t.marks.items
+  trail = reverse t.marks
 
   Cut : Values → Type 0
   Cut v = AreWatched v v cs w.pairs.items
@@ -199,17 +199,17 @@ module _ (cs : List (List Lit)) (leaves size : ℕ) (t : Trail) (w : Watches) (h
     fresh : assigned ms (variable_of d) ≡ None
     decision : IsDecision leaves (assigned ms) d
     ok : IsTrail cs leaves ms
-    newest : before_decision (reverse t.marks.items) ≡ Some (d, ms)
+    newest : before_decision (reverse t.marks) ≡ Some (d, ms)
     cut : AreWatched (assigned ms) (assigned ms) cs w.pairs.items
     cuts : AtCuts (λ v. AreWatched v v cs w.pairs.items) ms
 
   learning : Learning
   learning =
-      let n : Newest (reverse t.marks.items) = newest_by cs tc.need (reverse t.marks.items) c (before_decision (reverse t.marks.items)) refl tc.is full in
-      let at = cuts_before (λ v. AreWatched v v cs w.pairs.items) (reverse t.marks.items) n.decision n.older n.is h.cuts in
+      let n : Newest (reverse t.marks) = newest_by cs tc.need (reverse t.marks) c (before_decision (reverse t.marks)) refl tc.is full in
+      let at = cuts_before (λ v. AreWatched v v cs w.pairs.items) (reverse t.marks) n.decision n.older n.is h.cuts in
       let closed : IsClosed (assigned n.older) cs = watched_closed (assigned n.older) cs w.pairs.items h.count_is at.0 in
-      let g : Greatest cs leaves c n.decision n.older = greatest cs leaves tc.need (reverse t.marks.items) n.decision n.older c tc.hints tc.is h.synced.trail n.is closed tc.closes_it in
-      let b = trail_before cs leaves (reverse t.marks.items) n.decision n.older h.synced.trail n.is in
+      let g : Greatest cs leaves c n.decision n.older = greatest cs leaves tc.need (reverse t.marks) n.decision n.older c tc.hints tc.is h.synced.trail n.is closed tc.closes_it in
+      let b = trail_before cs leaves (reverse t.marks) n.decision n.older h.synced.trail n.is in
       record { d = n.decision; ms = n.older; need = g.need; is = g.is; fresh = b.0; decision = b.1; ok = b.2; newest = n.is; cut = at.0; cuts = at.1 }
 
   module _ (x : ℕ) (second : (front : List Lit) (l : Lit) → c ≡ front ++ l ∷ [] → LastIs front x) (leaf_lits : Each (IsLeafLit leaves) c) (leaves_in : leaves < size) where
@@ -217,7 +217,7 @@ module _ (cs : List (List Lit)) (leaves size : ℕ) (t : Trail) (w : Watches) (h
     front = (rests cs learning.need learning.ms).clause
 
     jumped_to : List Mark
-    jumped_to = jumped x (reverse t.marks.items) (reverse t.marks.items)
+    jumped_to = jumped x (reverse t.marks) (reverse t.marks)
 
     last : LastIs ((rests cs learning.need learning.ms).clause) x
     last = second ((rests cs learning.need learning.ms).clause) (opposite learning.d) learning.is
@@ -225,56 +225,56 @@ module _ (cs : List (List Lit)) (leaves size : ℕ) (t : Trail) (w : Watches) (h
     front_decided : Each (IsDecided leaves (assigned learning.ms)) ((rests cs learning.need learning.ms).clause)
     front_decided = clause_decided cs leaves learning.need learning.ms learning.ok
 
-    jump_is : jumped x (reverse t.marks.items) (reverse t.marks.items) ≡ jumped x learning.ms learning.ms
+    jump_is : jumped x (reverse t.marks) (reverse t.marks) ≡ jumped x learning.ms learning.ms
     jump_is =
-        jump_top x (reverse t.marks.items) (reverse t.marks.items) learning.d learning.ms learning.newest
+        jump_top x (reverse t.marks) (reverse t.marks) learning.d learning.ms learning.newest
         (other_last leaves (assigned learning.ms) ((rests cs learning.need learning.ms).clause) x (variable_of learning.d) front_decided last learning.decision.above learning.fresh)
 
-    inherits : (I : List Mark → Type 0) → ((m : Mark) (ms : List Mark) → I (m ∷ ms) → I ms) → I learning.ms → I (jumped x (reverse t.marks.items) (reverse t.marks.items))
+    inherits : (I : List Mark → Type 0) → ((m : Mark) (ms : List Mark) → I (m ∷ ms) → I ms) → I learning.ms → I (jumped x (reverse t.marks) (reverse t.marks))
     inherits I f i = subst I (sym jump_is) (jumped_has I f x learning.ms learning.ms i i)
 
-    jump_back : Back leaves ((rests cs learning.need learning.ms).clause) x (jumped x (reverse t.marks.items) (reverse t.marks.items))
+    jump_back : Back leaves ((rests cs learning.need learning.ms).clause) x (jumped x (reverse t.marks) (reverse t.marks))
     jump_back =
         subst (Back leaves ((rests cs learning.need learning.ms).clause) x) (sym jump_is)
         (back cs leaves ((rests cs learning.need learning.ms).clause) x last learning.need learning.ms learning.ms learning.ok refl refl front_decided)
 
-    jump_trail : IsTrail cs leaves (jumped x (reverse t.marks.items) (reverse t.marks.items))
+    jump_trail : IsTrail cs leaves (jumped x (reverse t.marks) (reverse t.marks))
     jump_trail = inherits (IsTrail cs leaves) (λ m ms ok. ok.2) learning.ok
 
-    jump_cuts : AtCuts (λ v. AreWatched v v cs w.pairs.items) (jumped x (reverse t.marks.items) (reverse t.marks.items))
+    jump_cuts : AtCuts (λ v. AreWatched v v cs w.pairs.items) (jumped x (reverse t.marks) (reverse t.marks))
     jump_cuts = inherits (AtCuts (λ v. AreWatched v v cs w.pairs.items)) (cuts_rest (λ v. AreWatched v v cs w.pairs.items)) learning.cuts
 
-    jump_cut : AreWatched (assigned (jumped x (reverse t.marks.items) (reverse t.marks.items))) (assigned (jumped x (reverse t.marks.items) (reverse t.marks.items))) cs w.pairs.items
+    jump_cut : AreWatched (assigned (jumped x (reverse t.marks) (reverse t.marks))) (assigned (jumped x (reverse t.marks) (reverse t.marks))) cs w.pairs.items
     jump_cut = subst (λ (tr : List Mark). AreWatched (assigned tr) (assigned tr) cs w.pairs.items) (sym jump_is) (jumped_cut (λ v. AreWatched v v cs w.pairs.items) x learning.ms learning.ms learning.cuts learning.cut)
 
-    jump_open : assigned (jumped x (reverse t.marks.items) (reverse t.marks.items)) (variable_of learning.d) ≡ None
+    jump_open : assigned (jumped x (reverse t.marks) (reverse t.marks)) (variable_of learning.d) ≡ None
     jump_open = inherits (λ tr. assigned tr (variable_of learning.d) ≡ None) (λ m ms e. (none_before (assigned ms) m.lit (variable_of learning.d) e).1) learning.fresh
 
-    module _ (t1 : Trail) (n : ℕ) (je : reverse t1.marks.items ≡ jumped x (reverse t.marks.items) (reverse t.marks.items)) (fe : t1.marks.items ≡ take n t.marks.items) (ve : reads t1.values.items ≡ assigned (reverse t1.marks.items)) (se : length t1.values.items ≡ length t.values.items) (oe : length t1.marks.items + open_count t1.values.items ≡ length t.marks.items + open_count t.values.items) (de : t1.done ≡ length t1.marks.items) (ne : t1.next ≡ x + 1) where
-      trail1 : IsTrail cs leaves (reverse t1.marks.items)
+    module _ (t1 : Trail) (n : ℕ) (je : reverse t1.marks ≡ jumped x (reverse t.marks) (reverse t.marks)) (fe : t1.marks ≡ take n t.marks) (ve : reads t1.values.items ≡ assigned (reverse t1.marks)) (se : length t1.values.items ≡ length t.values.items) (oe : length t1.marks + open_count t1.values.items ≡ length t.marks + open_count t.values.items) (de : t1.done ≡ length t1.marks) (ne : t1.next ≡ x + 1) where
+      trail1 : IsTrail cs leaves (reverse t1.marks)
       trail1 = subst (IsTrail cs leaves) (sym je) jump_trail
 
-      back1 : Back leaves ((rests cs learning.need learning.ms).clause) x (reverse t1.marks.items)
+      back1 : Back leaves ((rests cs learning.need learning.ms).clause) x (reverse t1.marks)
       back1 = subst (Back leaves ((rests cs learning.need learning.ms).clause) x) (sym je) jump_back
 
-      open1 : assigned (reverse t1.marks.items) (variable_of learning.d) ≡ None
+      open1 : assigned (reverse t1.marks) (variable_of learning.d) ≡ None
       open1 = subst (λ (tr : List Mark). assigned tr (variable_of learning.d) ≡ None) (sym je) jump_open
 
-      first1 : first_values t1.done t1.marks.items ≡ reads t1.values.items
-      first1 = ap (λ (ms : List Mark). assigned (reverse ms)) (take_all t1.done t1.marks.items (omega arith)) ∙ sym ve
+      first1 : first_values t1.done t1.marks ≡ reads t1.values.items
+      first1 = ap (λ (ms : List Mark). assigned (reverse ms)) (take_all t1.done t1.marks (omega arith)) ∙ sym ve
 
       upto1 : x ≤ leaves
       upto1 = elim back1.decision [
         | inl p ↦ let z = p.1 in omega arith
-        | inr p ↦ let b = (trail_before cs leaves (reverse t1.marks.items) p.0 p.1 trail1 p.2).1 in omega (arith, b.leaf, p.3)
+        | inr p ↦ let b = (trail_before cs leaves (reverse t1.marks) p.0 p.1 trail1 p.2).1 in omega (arith, b.leaf, p.3)
       ]
 
-      given1 : (y : ℕ) → 1 ≤ y → y < x + 1 → assigned (reverse t1.marks.items) y ≡ None → ⊥
+      given1 : (y : ℕ) → 1 ≤ y → y < x + 1 → assigned (reverse t1.marks) y ≡ None → ⊥
       given1 y above below e = elim back1.decision [
         | inl p ↦ let z = p.1 in omega arith
         | inr p ↦
-            let b = (trail_before cs leaves (reverse t1.marks.items) p.0 p.1 trail1 p.2).1 in
-            let f = decision_none y (reverse t1.marks.items) p.0 p.1 p.2 e in
+            let b = (trail_before cs leaves (reverse t1.marks) p.0 p.1 trail1 p.2).1 in
+            let f = decision_none y (reverse t1.marks) p.0 p.1 p.2 e in
             elim (cases_eq y (variable_of p.0)) [
               | inl s ↦ f.0 s
               | inr other ↦ b.least y above (let v = p.3 in omega arith) f.1
@@ -286,9 +286,9 @@ module _ (cs : List (List Lit)) (leaves size : ℕ) (t : Trail) (w : Watches) (h
         synced = record {
           values_are = ve;
           trail = trail1;
-          marks_fit = subst (λ (k : ℕ). All (λ m. variable_of m.lit < k) t1.marks.items) (sym se)
-              (subst (All (λ m. variable_of m.lit < length t.values.items)) (sym fe) (All-take (λ m. variable_of m.lit < length t.values.items) n t.marks.items h.synced.marks_fit));
-          reasons = subst (All (λ m. m.reason ≤ length cs)) (sym fe) (All-take (λ m. m.reason ≤ length cs) n t.marks.items h.synced.reasons);
+          marks_fit = subst (λ (k : ℕ). All (λ m. variable_of m.lit < k) t1.marks) (sym se)
+              (subst (All (λ m. variable_of m.lit < length t.values.items)) (sym fe) (All-take (λ m. variable_of m.lit < length t.values.items) n t.marks h.synced.marks_fit));
+          reasons = subst (All (λ m. m.reason ≤ length cs)) (sym fe) (All-take (λ m. m.reason ≤ length cs) n t.marks h.synced.reasons);
         };
         fit = h.fit;
         size_is = se ∙ h.size_is;
@@ -298,7 +298,7 @@ module _ (cs : List (List Lit)) (leaves size : ℕ) (t : Trail) (w : Watches) (h
         few = h.few;
         room = h.room;
         listed = h.listed;
-        watched = watched_at (assigned (jumped x (reverse t.marks.items) (reverse t.marks.items))) (first_values t1.done t1.marks.items) (assigned (jumped x (reverse t.marks.items) (reverse t.marks.items))) (reads t1.values.items) cs w.pairs.items
+        watched = watched_at (assigned (jumped x (reverse t.marks) (reverse t.marks))) (first_values t1.done t1.marks) (assigned (jumped x (reverse t.marks) (reverse t.marks))) (reads t1.values.items) cs w.pairs.items
             (ap assigned (sym je) ∙ sym ve ∙ sym first1) (ap assigned (sym je) ∙ sym ve) jump_cut;
         cuts = subst (AtCuts (λ v. AreWatched v v cs w.pairs.items)) (sym je) jump_cuts;
         from = omega arith;
@@ -314,7 +314,7 @@ module _ (cs : List (List Lit)) (leaves size : ℕ) (t : Trail) (w : Watches) (h
         pair_is = pair ((rests cs learning.need learning.ms).clause) (opposite learning.d) learning.is
 
         open_first : reads t1.values.items (variable_of p.first) ≡ None
-        open_first = ap (λ (a : Values). a (variable_of p.first)) ve ∙ ap (assigned (reverse t1.marks.items)) (ap variable_of pair_is.0 ∙ opposite_variable learning.d) ∙ open1
+        open_first = ap (λ (a : Values). a (variable_of p.first)) ve ∙ ap (assigned (reverse t1.marks)) (ap variable_of pair_is.0 ∙ opposite_variable learning.d) ∙ open1
 
         pub pair_not_false : is_false (reads t1.values.items) p.first ≡ false
         pair_not_false = ap (denies (is_positive p.first)) open_first
@@ -329,8 +329,8 @@ module _ (cs : List (List Lit)) (leaves size : ℕ) (t : Trail) (w : Watches) (h
         only_first =
             subst (Each (λ l. (l ≡ p.first) ⊎ (is_false (reads t1.values.items) l ≡ true))) (sym learning.is)
             (Each-snoc (λ l. (l ≡ p.first) ⊎ (is_false (reads t1.values.items) l ≡ true)) ((rests cs learning.need learning.ms).clause) (opposite learning.d)
-            (Each-weaker (IsDecided leaves (assigned (reverse t1.marks.items))) (λ l. (l ≡ p.first) ⊎ (is_false (reads t1.values.items) l ≡ true))
-            (λ l i. inr (ap (λ (a : Values). is_false a l) ve ∙ decided_false leaves (assigned (reverse t1.marks.items)) l i)) ((rests cs learning.need learning.ms).clause) back1.decided)
+            (Each-weaker (IsDecided leaves (assigned (reverse t1.marks))) (λ l. (l ≡ p.first) ⊎ (is_false (reads t1.values.items) l ≡ true))
+            (λ l i. inr (ap (λ (a : Values). is_false a l) ve ∙ decided_false leaves (assigned (reverse t1.marks)) l i)) ((rests cs learning.need learning.ms).clause) back1.decided)
             (inl (sym pair_is.0)))
 
         first_there : Among p.first c
@@ -348,8 +348,8 @@ module _ (cs : List (List Lit)) (leaves size : ℕ) (t : Trail) (w : Watches) (h
           | inr s ↦ subst (Among p.second) (sym learning.is) (among_before ((rests cs learning.need learning.ms).clause) s.0 p.second (opposite learning.d) s.1)
         ]
 
-        second_given : (d' : Lit) (ms' : List Mark) → before_decision (reverse t1.marks.items) ≡ Some (d', ms') → variable_of p.second ≡ variable_of d' → assigned (reverse t1.marks.items) (variable_of p.second) ≡ None → ⊥
-        second_given d' ms' e s o = (decision_none (variable_of p.second) (reverse t1.marks.items) d' ms' e o).0 s
+        second_given : (d' : Lit) (ms' : List Mark) → before_decision (reverse t1.marks) ≡ Some (d', ms') → variable_of p.second ≡ variable_of d' → assigned (reverse t1.marks) (variable_of p.second) ≡ None → ⊥
+        second_given d' ms' e s o = (decision_none (variable_of p.second) (reverse t1.marks) d' ms' e o).0 s
 
         -- the newest decision that is left is that of the second literal
         second_same : (d' : Lit) → 1 ≤ variable_of d' → x ≡ variable_of d' → variable_of p.second ≡ variable_of d'
@@ -362,39 +362,39 @@ module _ (cs : List (List Lit)) (leaves size : ℕ) (t : Trail) (w : Watches) (h
         ]
 
         -- at each cut of the trail that is left both literals of the pair are open, and differ
-        two_open_by : (d' : Lit) (ms' : List Mark) → before_decision (reverse t1.marks.items) ≡ Some (d', ms') → variable_of p.second ≡ variable_of d' → (v : Values) → v (variable_of p.first) ≡ None → v (variable_of p.second) ≡ None → IsWatched v v c p
+        two_open_by : (d' : Lit) (ms' : List Mark) → before_decision (reverse t1.marks) ≡ Some (d', ms') → variable_of p.second ≡ variable_of d' → (v : Values) → v (variable_of p.first) ≡ None → v (variable_of p.second) ≡ None → IsWatched v v c p
         two_open_by d' ms' e s v o1 o2 = record {
           first_there = first_there;
           second_there = second_there;
-          two = inl (λ same. second_given d' ms' e s (ap (assigned (reverse t1.marks.items)) (sym (ap variable_of same)) ∙ ap (assigned (reverse t1.marks.items)) (ap variable_of pair_is.0 ∙ opposite_variable learning.d) ∙ open1));
+          two = inl (λ same. second_given d' ms' e s (ap (assigned (reverse t1.marks)) (sym (ap variable_of same)) ∙ ap (assigned (reverse t1.marks)) (ap variable_of pair_is.0 ∙ opposite_variable learning.d) ∙ open1));
           first = λ f. absurd (false≢true (ap (denies (is_positive p.first)) (sym o1) ∙ f));
           second = λ f. absurd (false≢true (ap (denies (is_positive p.second)) (sym o2) ∙ f));
         }
 
-        pair_cuts : AtCuts (λ v. IsWatched v v c p) (reverse t1.marks.items)
+        pair_cuts : AtCuts (λ v. IsWatched v v c p) (reverse t1.marks)
         pair_cuts = elim back1.decision [
-          | inl s ↦ cuts_none (λ v. IsWatched v v c p) (reverse t1.marks.items) s.2
+          | inl s ↦ cuts_none (λ v. IsWatched v v c p) (reverse t1.marks) s.2
           | inr s ↦
-              let same : variable_of p.second ≡ variable_of s.0 = second_same s.0 (trail_before cs leaves (reverse t1.marks.items) s.0 s.1 trail1 s.2).1.above s.3 in
-              cuts_both (Open (variable_of p.first)) (Open (variable_of s.0)) (λ v. IsWatched v v c p) (reverse t1.marks.items)
+              let same : variable_of p.second ≡ variable_of s.0 = second_same s.0 (trail_before cs leaves (reverse t1.marks) s.0 s.1 trail1 s.2).1.above s.3 in
+              cuts_both (Open (variable_of p.first)) (Open (variable_of s.0)) (λ v. IsWatched v v c p) (reverse t1.marks)
               (λ v o1 o2. two_open_by s.0 s.1 s.2 same v o1 (ap v same ∙ o2))
-              (open_cuts (variable_of p.first) (reverse t1.marks.items) (ap (assigned (reverse t1.marks.items)) (ap variable_of pair_is.0 ∙ opposite_variable learning.d) ∙ open1))
-              (newest_cuts cs leaves (reverse t1.marks.items) s.0 s.1 trail1 s.2)
+              (open_cuts (variable_of p.first) (reverse t1.marks) (ap (assigned (reverse t1.marks)) (ap variable_of pair_is.0 ∙ opposite_variable learning.d) ∙ open1))
+              (newest_cuts cs leaves (reverse t1.marks) s.0 s.1 trail1 s.2)
         ]
 
-        module _ (t2 : Trail) (w' : Watches) (me : t2.marks.items ≡ t1.marks.items ++ record { lit = p.first; reason = length cs + 1 } ∷ []) (ve2 : t2.values.items ≡ set t1.values.items (variable_of p.first) (Some (is_positive p.first))) (de2 : t2.done ≡ t1.done) (ne2 : t2.next ≡ t1.next) where
+        module _ (t2 : Trail) (w' : Watches) (me : t2.marks ≡ t1.marks ++ record { lit = p.first; reason = length cs + 1 } ∷ []) (ve2 : t2.values.items ≡ set t1.values.items (variable_of p.first) (Some (is_positive p.first))) (de2 : t2.done ≡ t1.done) (ne2 : t2.next ≡ t1.next) where
           held2 : IsHeld (cs ++ c ∷ []) leaves size (length cs) t2 w
           held2 = held_forced (cs ++ c ∷ []) leaves size (length cs) t1 t2 w held1 (length cs) c p.first (get_last cs c) unit1 pair_not_true pair_room me ve2 de2 ne2
 
           true2 : is_true (reads t2.values.items) p.first ≡ true
           true2 = ap (λ (a : Values). is_true a p.first) (sym (forced_values (cs ++ c ∷ []) leaves size (length cs) t1 t2 w held1 (length cs) c p.first (get_last cs c) unit1 pair_not_true pair_room me ve2 de2 ne2)) ∙ true_here (reads t1.values.items) p.first
 
-          first2 : first_values t2.done t2.marks.items ≡ reads t1.values.items
+          first2 : first_values t2.done t2.marks ≡ reads t1.values.items
           first2 =
               sym (forced_first (cs ++ c ∷ []) leaves size (length cs) t1 t2 w held1 (length cs) c p.first (get_last cs c) unit1 pair_not_true pair_room me ve2 de2 ne2 t2.done (omega (arith, de, de2)))
-              ∙ ap (λ (k : ℕ). first_values k t1.marks.items) de2 ∙ first1
+              ∙ ap (λ (k : ℕ). first_values k t1.marks) de2 ∙ first1
 
-          watched2 : IsWatched (first_values t2.done t2.marks.items) (reads t2.values.items) c p
+          watched2 : IsWatched (first_values t2.done t2.marks) (reads t2.values.items) c p
           watched2 = record {
             first_there = first_there;
             second_there = second_there;
@@ -403,10 +403,10 @@ module _ (cs : List (List Lit)) (leaves size : ℕ) (t : Trail) (w : Watches) (h
             second = λ f. true2;
           }
 
-          cuts2 : AtCuts (λ v. IsWatched v v c p) (reverse t2.marks.items)
+          cuts2 : AtCuts (λ v. IsWatched v v c p) (reverse t2.marks)
           cuts2 =
-              subst (AtCuts (λ v. IsWatched v v c p)) (sym (ap reverse me ∙ newest t1.marks.items (record { lit = p.first; reason = length cs + 1 })))
-              (subst (λ (r : ℕ). AtCuts (λ v. IsWatched v v c p) (record { lit = p.first; reason = r } ∷ reverse t1.marks.items)) (sym (add-one (length cs))) pair_cuts)
+              subst (AtCuts (λ v. IsWatched v v c p)) (sym (ap reverse me ∙ newest t1.marks (record { lit = p.first; reason = length cs + 1 })))
+              (subst (λ (r : ℕ). AtCuts (λ v. IsWatched v v c p) (record { lit = p.first; reason = r } ∷ reverse t1.marks)) (sym (add-one (length cs))) pair_cuts)
 
           pub held_learned : code_of p.first < length w.lists.items → code_of p.second < length w.lists.items → w'.lists.items ≡ listed_more (listed_more w.lists.items (code_of p.first) (length w.pairs.items)) (code_of p.second) (length w.pairs.items) → w'.pairs.items ≡ w.pairs.items ++ p ∷ [] → IsHeld (cs ++ c ∷ []) leaves size (length cs + 1) t2 w'
           held_learned room1 room2 le pe = held_add (cs ++ c ∷ []) leaves size (length cs) t2 w w' c p held2 (get_last cs c) room1 room2 watched2 cuts2 le pe

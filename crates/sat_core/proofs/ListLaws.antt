@@ -1,8 +1,8 @@
 -- Lists by place: what a write, a push and a removal keep.
-use Rattle.std.proofs.Common.{◌≡◌, ℕ, ◌-◌, ◌<◌, ◌≤◌, List, [], ◌∷◌, ◌++◌, refl, sym, ap, subst, ◌∙◌, Some, inl, inr, ◌⊎◌, slice_get, get_or, set, take, length, zero, suc, arith, get_or-set_other}
+use Rattle.std.proofs.Common.{◌≡◌, ℕ, ◌-◌, ◌<◌, ◌≤◌, List, [], ◌∷◌, ◌++◌, refl, sym, ap, subst, ◌∙◌, Some, inl, inr, ◌⊎◌, slice_get, get_or, set, take, length, zero, suc, arith, All, length-append, get_or-set_other}
 use Rattle.std.proofs.lemmas.Bool.{cases_eq, cases_lt}
 use Rattle.std.proofs.lemmas.Grind.{get_or-set_at}
-use Rattle.std.proofs.lemmas.List.{length-set, length-take-le, get_or_read}
+use Rattle.std.proofs.lemmas.List.{get_or_append_left, length-set, length-take-le, get_or_read}
 use Rattle.std.proofs.lemmas.Option.{get_or_from_slice_get, slice_get_within, slice_get_read}
 use Rattle.sat_core.specs.Watch.{list_at, taken_out, listed_more, listed_less, IsFrom}
 
@@ -143,3 +143,6 @@ at_list (ks ∷ kss) (suc i) at h = let r = at_list kss i at h in omega arith
 
 pub read_place : (ks list : List ℕ) (at place : ℕ) → list ≡ ks → at < length ks → place ≡ get_or list at place → slice_get ks at ≡ Some place
 read_place ks list at place e lt is = slice_get_read ks (length ks) at place refl lt (is ∙ ap (λ (xs : List ℕ). get_or xs at place) e)
+
+pub all_front : {A : Type 0} (P : A → Type 0) (xs ys : List A) → All P (xs ++ ys) → All P xs
+all_front P xs ys h k d lt = subst P (get_or_append_left xs ys d k lt) (h k d (omega (arith, length-append xs ys)))

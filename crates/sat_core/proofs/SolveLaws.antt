@@ -2,7 +2,7 @@
 use Rattle.std.proofs.Common.{◌≡◌, ℕ, ◌+◌, ◌-◌, ◌<◌, ◌≤◌, Bool, true, false, cond, eqb, ltb, ◌||◌, List, [], ◌∷◌, ◌++◌, refl, sym, ap, subst, ◌∙◌, Option, Some, None, inl, inr, slice_get, length, ℤ, pos, zero, suc, arith, reverse, length-append, append_assoc, get_or, map, drop}
 use Rattle.std.proofs.lemmas.List.{append-nil}
 use Rattle.std.proofs.Math.Path.{fun_ext}
-use Rattle.std.proofs.lemmas.Bool.{and_from, lt-ltb, cases_eq, eq-eqb, ne_eqb, cond-true, cond-false}
+use Rattle.std.proofs.lemmas.Bool.{and_from, lt-ltb, cases_eq, eq-eqb, ne_eqb, cond-true, cond-false, eqb-true}
 use Rattle.cnf_core.specs.declared.lit.Lit.{Lit}
 use Rattle.cnf_core.specs.declared.formula.Step.{Step}
 use Rattle.cnf_core.specs.declared.formula.Step.TheVariants.{Add, Delete}
@@ -310,3 +310,6 @@ refuted_at_start cs clauses leaves budget log log' c hints n ce le t empty is e 
 
 pub traced_nil : (cs : List (List Lit)) (marks : List Mark) (c : List Lit) → IsTraced cs marks c → before_decision (reverse marks) ≡ None → c ≡ []
 traced_nil cs marks c t e = t.is ∙ no_decision cs t.need (reverse marks) e
+
+pub empty_by : (b : Bool) (n : ℕ) (c : List Lit) → b ≡ eqb n 0 → b ≡ true → n ≡ length c → length c ≡ 0
+empty_by b n c e t is = sym is ∙ eqb-true n 0 (sym e ∙ t)

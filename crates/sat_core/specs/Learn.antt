@@ -29,13 +29,13 @@ pub record IsPairAt (cs : List (List Lit)) (k : ℕ) (p : Pair) : Type 0 where
 -- the first clauses are watched, no decision is made and nothing is propagated
 pub record IsBegun (cs : List (List Lit)) (leaves size count : ℕ) (t : Trail) (w : Watches) : Type 0 where
   pub held : IsHeld cs leaves size count t w
-  pub undecided : before_decision (reverse t.marks.items) ≡ None
+  pub undecided : before_decision (reverse t.marks) ≡ None
   pub first : t.done ≡ 0
 
 -- a clause is falsified before any decision
 pub record IsRefuted (cs : List (List Lit)) (leaves size : ℕ) (t : Trail) (k : ℕ) : Type 0 where
-  pub synced : IsSynced cs leaves t.marks.items t.values.items
-  pub undecided : before_decision (reverse t.marks.items) ≡ None
+  pub synced : IsSynced cs leaves t.marks t.values.items
+  pub undecided : before_decision (reverse t.marks) ≡ None
   pub conflict : IsConflict cs (reads t.values.items) k
 
 abbrev pub BeginSays : List (List Lit) → ℕ → ℕ → ℕ → Trail → Watches → Bool → Type 0

@@ -67,17 +67,17 @@ first_values n marks = assigned (reverse (take n marks))
 
 -- the solver's state outside a visit: `size` variables with 0, the first `count` clauses watched
 pub record IsHeld (cs : List (List Lit)) (leaves size count : ℕ) (t : Trail) (w : Watches) : Type 0 where
-  pub synced : IsSynced cs leaves t.marks.items t.values.items
+  pub synced : IsSynced cs leaves t.marks t.values.items
   pub fit : All (Fits size) cs
   pub size_is : length t.values.items ≡ size
-  pub marks_open : length t.marks.items + open_count t.values.items ≡ size
-  pub done : t.done ≤ length t.marks.items
+  pub marks_open : length t.marks + open_count t.values.items ≡ size
+  pub done : t.done ≤ length t.marks
   pub count_is : length w.pairs.items ≡ count
   pub few : count ≤ length cs
   pub room : length w.lists.items ≡ 2 * size
   pub listed : AreListed w.lists.items w.pairs.items
-  pub watched : AreWatched (first_values t.done t.marks.items) (reads t.values.items) cs w.pairs.items
-  pub cuts : AtCuts (λ v. AreWatched v v cs w.pairs.items) (reverse t.marks.items)
+  pub watched : AreWatched (first_values t.done t.marks) (reads t.values.items) cs w.pairs.items
+  pub cuts : AtCuts (λ v. AreWatched v v cs w.pairs.items) (reverse t.marks)
   pub from : 1 ≤ t.next
   pub upto : t.next ≤ leaves + 1
   pub given : (y : ℕ) → 1 ≤ y → y < t.next → reads t.values.items y ≡ None → ⊥
@@ -86,10 +86,10 @@ pub record IsHeld (cs : List (List Lit)) (leaves size count : ℕ) (t : Trail) (
 pub record IsVisiting (cs : List (List Lit)) (leaves size count : ℕ) (t : Trail) (w : Watches) (f : Lit) (at : ℕ) : Type 0 where
   pub held : IsHeld cs leaves size count t w
   pub mark : Mark
-  pub there : slice_get t.marks.items t.done ≡ Some mark
+  pub there : slice_get t.marks t.done ≡ Some mark
   pub denied : f ≡ opposite mark.lit
   pub waits : (k : ℕ) (c : List Lit) (p : Pair) → slice_get cs k ≡ Some c → slice_get w.pairs.items k ≡ Some p
-      → IsWatched (first_values (t.done + 1) t.marks.items) (reads t.values.items) c p ⊎ IsFrom (list_at w.lists.items (code_of f)) at k
+      → IsWatched (first_values (t.done + 1) t.marks) (reads t.values.items) c p ⊎ IsFrom (list_at w.lists.items (code_of f)) at k
 
 -- the trail grew, and what is propagated of it is the same
 pub record Went (old new : Trail) : Type 0 where

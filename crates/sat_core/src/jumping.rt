@@ -4,10 +4,11 @@ ghost use Rattle.sat_core.specs.Jump.{jumped};
 ghost use Rattle.sat_core.specs.Sync.{reads, open_count};
 ghost use Rattle.sat_core.specs.Trail.{assigned, AreFresh};
 
-use crate::trail::{Mark, Trail};
+use crate::marks::Marks;
+use crate::trail::Trail;
 
 /// The place of the oldest decision above that of a variable, or of the oldest of all where it has none.
-fn cut_place(marks: &[Mark], second: u32) -> usize
+fn cut_place(marks: &Marks, second: u32) -> usize
     ensures within { result ≤ length marks.now }
     ensures jumped { reverse (take result marks.now) ≡ jumped second (reverse marks.now) (reverse marks.now) }
 {
@@ -15,8 +16,8 @@ fn cut_place(marks: &[Mark], second: u32) -> usize
     let mut place = marks.len();
     while place > 0 {
         place -= 1;
-        if marks[place].reason == 0 {
-            if marks[place].lit.variable() == second {
+        if marks.get(place).reason == 0 {
+            if marks.get(place).lit.variable() == second {
                 return cut;
             }
             cut = place;
@@ -27,19 +28,19 @@ fn cut_place(marks: &[Mark], second: u32) -> usize
 
 /// Undoes all decisions above that of a leaf, or all where it is 0. The leaves up to it have values.
 pub fn jump(trail: &mut Trail, second: u32)
-    requires values { reads trail.old.values.items ≡ assigned (reverse trail.old.marks.items) }
-    requires fresh { AreFresh (reverse trail.old.marks.items) }
-    requires fit { All (λ m. variable_of m.lit < length trail.old.values.items) trail.old.marks.items }
+    requires values { reads trail.old.values.items ≡ assigned (reverse trail.old.marks) }
+    requires fresh { AreFresh (reverse trail.old.marks) }
+    requires fit { All (λ m. variable_of m.lit < length trail.old.values.items) trail.old.marks }
     requires small { second < 2 ^ 30 }
-    ensures jumped { reverse trail.new.marks.items ≡ jumped second (reverse trail.old.marks.items) (reverse trail.old.marks.items) }
-    ensures front { (n : ℕ) × (trail.new.marks.items ≡ take n trail.old.marks.items) }
-    ensures values { reads trail.new.values.items ≡ assigned (reverse trail.new.marks.items) }
+    ensures jumped { reverse trail.new.marks ≡ jumped second (reverse trail.old.marks) (reverse trail.old.marks) }
+    ensures front { (n : ℕ) × (trail.new.marks ≡ take n trail.old.marks) }
+    ensures values { reads trail.new.values.items ≡ assigned (reverse trail.new.marks) }
     ensures size { length trail.new.values.items ≡ length trail.old.values.items }
-    ensures open { length trail.new.marks.items + open_count trail.new.values.items ≡ length trail.old.marks.items + open_count trail.old.values.items }
-    ensures done { trail.new.done ≡ length trail.new.marks.items }
+    ensures open { length trail.new.marks + open_count trail.new.values.items ≡ length trail.old.marks + open_count trail.old.values.items }
+    ensures done { trail.new.done ≡ length trail.new.marks }
     ensures next { trail.new.next ≡ second + 1 }
 {
-    let cut = cut_place(trail.marks.as_slice(), second);
+    let cut = cut_place(&trail.marks, second);
     trail.undo(cut);
     trail.done = cut;
     trail.next = second + 1;

@@ -14,7 +14,6 @@ use crate::visiting::same;
 use crate::watching::{Pair, Watches};
 use bits_core::NoMemory;
 use cnf_core::Lit;
-use std::alloc::Global;
 
 /// Two different literals of a clause, or the only one twice; none where it is empty.
 fn pair_of(clause: &[Lit]) -> Option<Pair>
@@ -137,7 +136,6 @@ fn last_pair(lits: &[Lit]) -> Pair
 
 /// Jumps back to the second greatest decision of a clause, and learns the clause: its greatest literal is true then.
 pub fn learn(
-    alloc: Global,
     clauses: &mut Arena,
     leaves: u32,
     trail: &mut Trail,
@@ -145,7 +143,7 @@ pub fn learn(
     lits: &[Lit],
 ) -> Result<(), NoMemory>
     requires held { IsHeld clauses.old leaves (length trail.old.values.items) (length clauses.old) trail.old watches.old }
-    requires traced { IsTraced clauses.old trail.old.marks.items lits.now }
+    requires traced { IsTraced clauses.old trail.old.marks lits.now }
     requires leaf_lits { Each (IsLeafLit leaves) lits.now }
     requires full { 1 ≤ length lits.now }
     requires fit { leaves < length trail.old.values.items }
@@ -157,7 +155,7 @@ pub fn learn(
     let pair = last_pair(lits);
     jump(trail, second_variable(lits));
     let place = clauses.len();
-    clauses.push(alloc, lits)?;
+    clauses.push(lits)?;
     trail.push(pair.first, place + 1)?;
     watches.add(pair)?;
     Ok(())

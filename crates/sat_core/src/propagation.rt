@@ -19,10 +19,10 @@ pub fn propagate(
     requires { IsHeld clauses.now leaves (length trail.old.values.items) (length watches.old.pairs.items) trail.old watches.old }
     ensures held { OnOk result (IsHeld clauses.now leaves (length trail.old.values.items) (length watches.old.pairs.items) trail.new watches.new) }
     ensures fewer { OnOk result (open_count trail.new.values.items ≤ open_count trail.old.values.items) }
-    ensures says { IfOk result (λ found. MatchOption found (trail.new.done ≡ length trail.new.marks.items) (IsConflict clauses.now (reads trail.new.values.items))) }
+    ensures says { IfOk result (λ found. MatchOption found (trail.new.done ≡ length trail.new.marks) (IsConflict clauses.now (reads trail.new.values.items))) }
 {
     while trail.done < trail.marks.len() {
-        let lit = trail.marks[trail.done].lit.negated();
+        let lit = trail.marks.get(trail.done).lit.negated();
         if let Some(place) = visit(clauses, leaves, trail, watches, lit)? {
             return Ok(Some(place));
         }

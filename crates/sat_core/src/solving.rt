@@ -9,6 +9,7 @@ ghost use Rattle.sat_core.specs.Sync.{Fits};
 use crate::analysis::analyse;
 use crate::arena::Arena;
 use crate::learning::{begin, learn};
+use crate::pending::Pending;
 use crate::searching::{Round, search};
 use crate::trail::Trail;
 use crate::watching::Watches;
@@ -45,7 +46,7 @@ fn gathered(alloc: Global, clauses: &[Clause]) -> Result<Arena, NoMemory>
     let mut arena = Arena::new(alloc);
     for clause in clauses {
         see_variables(clause.as_slice());
-        arena.push(alloc, clause.as_slice())?;
+        arena.push(clause.as_slice())?;
     }
     Ok(arena)
 }
@@ -92,9 +93,10 @@ pub fn solve(
     let mut clauses = gathered(alloc, formula.clauses.as_slice())?;
     let mut trail = Trail::new(alloc, size)?;
     let mut watches = Watches::new(alloc, 2 * size)?;
+    let mut pending = Pending::new(alloc, size)?;
     let mut log = Items::new(alloc);
     if let Some(place) = begin(&clauses, leaves, &mut trail, &mut watches)? {
-        let (lits, hints) = analyse(alloc, &clauses, leaves, &trail, place)?;
+        let (lits, hints) = analyse(alloc, &clauses, leaves, &trail, &mut pending, place)?;
         add_step(&mut log, clauses.len() as u64 + 1, lits, hints)?;
         return Ok(Outcome::Unsat(log));
     }
@@ -103,7 +105,7 @@ pub fn solve(
         match search(&clauses, leaves, &mut trail, &mut watches)? {
             Round::Full => return Ok(Outcome::Sat(assignment(alloc, &trail.values[1..])?)),
             Round::Conflict(place) => {
-                let (lits, hints) = analyse(alloc, &clauses, leaves, &trail, place)?;
+                let (lits, hints) = analyse(alloc, &clauses, leaves, &trail, &mut pending, place)?;
                 let id = clauses.len() as u64 + 1;
                 if lits.is_empty() {
                     add_step(&mut log, id, lits, hints)?;
@@ -113,7 +115,6 @@ pub fn solve(
                     return Ok(Outcome::Spent(log));
                 }
                 learn(
-                    alloc,
                     &mut clauses,
                     leaves,
                     &mut trail,

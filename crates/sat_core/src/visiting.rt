@@ -120,7 +120,7 @@ pub fn visit(
     requires { IsVisiting clauses.now leaves (length trail.old.values.items) (length watches.old.pairs.items) trail.old watches.old lit 0 }
     ensures went { OnOk result (Went trail.old trail.new) }
     ensures held { OnOk result (IsHeld clauses.now leaves (length trail.old.values.items) (length watches.old.pairs.items) trail.new watches.new) }
-    ensures says { IfOk result (λ found. MatchOption found (AreWatched (first_values (trail.new.done + 1) trail.new.marks.items) (reads trail.new.values.items) clauses.now watches.new.pairs.items) (IsConflict clauses.now (reads trail.new.values.items))) }
+    ensures says { IfOk result (λ found. MatchOption found (AreWatched (first_values (trail.new.done + 1) trail.new.marks) (reads trail.new.values.items) clauses.now watches.new.pairs.items) (IsConflict clauses.now (reads trail.new.values.items))) }
 {
     let list = code(lit);
     let mut at = 0;

@@ -7,7 +7,7 @@ use Rattle.sat_core.proofs.LearnLaws.{pair_room, pair_first_code, pair_second_co
 use Rattle.sat_core.proofs.learning.learn.Goals as goal
 
 pub jump-requires-clause-fresh : goal.jump-requires-clause-fresh
-jump-requires-clause-fresh c = fresh_of c.args.clauses.now c.args.leaves (reverse c.args.trail.now.marks.items) c.requires.held.synced.trail
+jump-requires-clause-fresh c = fresh_of c.args.clauses.now c.args.leaves (reverse c.args.trail.now.marks) c.requires.held.synced.trail
 
 pub push-requires-2 : goal.push-requires-2
 push-requires-2 c =
@@ -70,8 +70,8 @@ returns-clause-held c =
     let t2 = c.push-2.new.self in
     let e = c.in_ok-push-2.ensures in
     let place : c.len-place.result ≡ length cs = c.len-place.ensures in
-    let me : t2.marks.items ≡ t1.marks.items ++ record { lit = p.first; reason = length cs + 1 } ∷ [] =
-    e.marks ∙ ap (λ (n : ℕ). t1.marks.items ++ record { lit = p.first; reason = n + 1 } ∷ []) place in
+    let me : t2.marks ≡ t1.marks ++ record { lit = p.first; reason = length cs + 1 } ∷ [] =
+    e.marks ∙ ap (λ (n : ℕ). t1.marks ++ record { lit = p.first; reason = n + 1 } ∷ []) place in
     let room1 = pair_first_code cs leaves size t w q.held lits q.traced q.full x c.second_variable.ensures.last q.leaf_lits q.fit t1 j.front.0 j.jumped j.front.1 j.values j.size j.open j.done j.next p c.last_pair-pair.ensures in
     let room2 = pair_second_code cs leaves size t w q.held lits q.traced q.full x c.second_variable.ensures.last q.leaf_lits q.fit t1 j.front.0 j.jumped j.front.1 j.values j.size j.open j.done j.next p c.last_pair-pair.ensures in
     let held = held_learned cs leaves size t w q.held lits q.traced q.full x c.second_variable.ensures.last q.leaf_lits q.fit t1 j.front.0 j.jumped j.front.1 j.values j.size j.open j.done j.next p c.last_pair-pair.ensures t2 c.add.new.self me e.values e.done e.next room1 room2 c.in_ok-add.ensures.lists c.in_ok-add.ensures.pairs in

@@ -15,5 +15,5 @@ visit-requires c =
     let held : IsHeld cs c.args.leaves size count t w =
     subst (λ (n : ℕ). IsHeld cs c.args.leaves n count t w) (sym h.size_is)
     (subst (λ (n : ℕ). IsHeld cs c.args.leaves (length c.args.trail.now.values.items) n t w) (sym h.count_is) h) in
-    let there : slice_get t.marks.items t.done ≡ Some c.index.result.now = slice_get_read t.marks.items (length t.marks.items) t.done c.index.result.now refl (omega arith) c.index.ensures in
-    visit_starts cs c.args.leaves size count t w held c.index.result.now c.negated-lit.result there c.negated-lit.ensures
+    let there : slice_get t.marks t.done ≡ Some c.get.result = slice_get_read t.marks (length t.marks) t.done c.get.result refl (omega arith) c.get.ensures in
+    visit_starts cs c.args.leaves size count t w held c.get.result c.negated-lit.result there c.negated-lit.ensures

@@ -16,7 +16,7 @@ returns-then-trail-leaves-clause-says c =
     let i = c.loop-place.invariant in
     let h : IsHeld cs leaves size (length cs) t w =
     subst (λ (n : ℕ). IsHeld cs leaves size n t w) i.count_is (subst (λ (n : ℕ). IsHeld cs leaves n (length c.loop-place.watches.pairs.items) t w) i.size_is c.in_ok-place.ensures.held) in
-    let all : t.done ≡ length t.marks.items = MatchOption-at_none (t.done ≡ length t.marks.items) (IsConflict cs (reads t.values.items)) c.in_default.is c.in_ok-place.ensures.says in
+    let all : t.done ≡ length t.marks = MatchOption-at_none (t.done ≡ length t.marks) (IsConflict cs (reads t.values.items)) c.in_default.is c.in_ok-place.ensures.says in
     let x : ℕ = c.open_leaf-trail.result in
     let o = c.open_leaf-trail.ensures in
     let read : c.as_slice.result.now ≡ t.values.items = c.as_slice.ensures.value in
@@ -34,7 +34,7 @@ loop-place-preserved c =
     let i = c.loop-place.invariant in
     let h : IsHeld cs leaves size (length cs) t w =
     subst (λ (n : ℕ). IsHeld cs leaves size n t w) i.count_is (subst (λ (n : ℕ). IsHeld cs leaves n (length c.loop-place.watches.pairs.items) t w) i.size_is c.in_ok-place.ensures.held) in
-    let all : t.done ≡ length t.marks.items = MatchOption-at_none (t.done ≡ length t.marks.items) (IsConflict cs (reads t.values.items)) c.in_default.is c.in_ok-place.ensures.says in
+    let all : t.done ≡ length t.marks = MatchOption-at_none (t.done ≡ length t.marks) (IsConflict cs (reads t.values.items)) c.in_default.is c.in_ok-place.ensures.says in
     let x : ℕ = c.open_leaf-trail.result in
     let o = c.open_leaf-trail.ensures in
     let read : c.as_slice.result.now ≡ t.values.items = c.as_slice.ensures.value in

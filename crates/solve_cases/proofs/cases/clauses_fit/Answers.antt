@@ -2,7 +2,7 @@ use Rattle.std.proofs.Common.{arith, subst, ◌∙◌, All}
 use Rattle.std.proofs.lemmas.List.{take_all}
 use Rattle.std.proofs.lemmas.List.Elements.{All-more}
 use Rattle.sat_core.specs.Sync.{Fits}
-use Rattle.sat_core.proofs.tests.clauses_fit.Goals as goal
+use Rattle.solve_cases.proofs.cases.clauses_fit.Goals as goal
 
 pub loop-clause-preserved : goal.loop-clause-preserved
 loop-clause-preserved c =

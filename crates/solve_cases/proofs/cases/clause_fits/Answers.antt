@@ -4,7 +4,7 @@ use Rattle.std.proofs.lemmas.List.Elements.{All-more}
 use Rattle.cnf_core.specs.declared.lit.Lit.{Lit}
 use Rattle.cnf_core.specs.Lit.{variable_of}
 use Rattle.sat_core.specs.Sync.{Fits}
-use Rattle.sat_core.proofs.tests.clause_fits.Goals as goal
+use Rattle.solve_cases.proofs.cases.clause_fits.Goals as goal
 
 pub loop-lit-preserved : goal.loop-lit-preserved
 loop-lit-preserved c =

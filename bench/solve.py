@@ -1,0 +1,187 @@
+#!/usr/bin/env python3
+"""How long the solver takes on formulas of the shapes that rows have, and how much memory.
+
+Usage: bench/solve.py PROGRAM [cases FILE]     (PROGRAM is crates/solve_cases as `rt run` builds it)
+
+Prints a line for each formula: its variables and clauses, the answer, the seconds less those of a run that reads the same text and solves nothing, the
+formula's memory (the greatest of a run that builds it, less that of one that reads the text alone), the solver's memory (at most: what is left of the
+program's greatest without the text and the formula), and where minisat is installed its seconds and its propagations a second on the same formula, which
+it is told not to simplify before. With `cases` it writes random small gate formulas to a file instead, a line for each, for two builds of PROGRAM to be
+compared on. The formulas are the same at each run.
+"""
+import random
+import re
+import shutil
+import subprocess
+import sys
+import tempfile
+import time
+
+
+class Gates:
+    """A gate formula: the leaves are the variables from 1 on, then one variable for each gate."""
+
+    def __init__(self, leaves):
+        self.variables = leaves
+        self.clauses = []
+
+    def new(self):
+        self.variables += 1
+        return self.variables
+
+    def both(self, a, b):
+        g = self.new()
+        self.clauses += [[-g, a], [-g, b], [g, -a, -b]]
+        return g
+
+    def differ(self, a, b):
+        g = self.new()
+        self.clauses += [[-g, a, b], [-g, -a, -b], [g, -a, b], [g, a, -b]]
+        return g
+
+    def choice(self, c, a, b):
+        g = self.new()
+        self.clauses += [[-g, -c, a], [g, -c, -a], [-g, c, b], [g, c, -b]]
+        return g
+
+    def constant(self, value):
+        g = self.new()
+        self.clauses.append([g if value else -g])
+        return g
+
+
+def places(inputs, before):
+    """The leaves of the inputs and of a selector, which stands before them or behind."""
+    bits = inputs.bit_length() - 1
+    first, selector = (bits + 1, 1) if before else (1, inputs + 1)
+    return bits, list(range(first, first + inputs)), list(range(selector, selector + bits))
+
+
+def multiplexer(inputs, before=False):
+    """One of the inputs, by a selector."""
+    bits, row, selector = places(inputs, before)
+    gates = Gates(inputs + bits)
+    for bit in selector:
+        row = [gates.choice(bit, row[2 * i + 1], row[2 * i]) for i in range(len(row) // 2)]
+    return gates, row[0]
+
+
+def chain(arms, before=True):
+    """An `if` chain that compares a selector with each number in turn."""
+    bits, inputs, selector = places(arms, before)
+    gates = Gates(arms + bits)
+    one = gates.constant(True)
+    result = gates.constant(False)
+    inverse = [gates.differ(bit, one) for bit in selector]
+    for arm in reversed(range(arms)):
+        test = one
+        for bit in range(bits):
+            test = gates.both(test, selector[bit] if arm >> bit & 1 else inverse[bit])
+        result = gates.choice(test, inputs[arm], result)
+    return gates, result
+
+
+def adder(gates, a, b):
+    total, carry = [], None
+    for x, y in zip(a, b):
+        half = gates.differ(x, y)
+        if carry is None:
+            total.append(half)
+            carry = gates.both(x, y)
+        else:
+            total.append(gates.differ(half, carry))
+            carry = gates.choice(half, carry, x)
+    return total + [carry]
+
+
+def unequal_sums(leaves):
+    """Whether a + b and b + a differ: no assignment of the leaves makes it so, and each has to be ruled out."""
+    half = leaves // 2
+    gates = Gates(leaves)
+    a, b = list(range(1, half + 1)), list(range(half + 1, leaves + 1))
+    result = None
+    for x, y in zip(adder(gates, a, b), adder(gates, b, a)):
+        bit = gates.differ(x, y)
+        result = bit if result is None else gates.choice(result, result, bit)
+    return gates, result
+
+
+def random_gates(rng):
+    gates = Gates(rng.randint(1, 7))
+    nodes = list(range(1, gates.variables + 1))
+    if rng.random() < 0.2:
+        nodes.append(gates.constant(rng.random() < 0.5))
+    for _ in range(rng.randint(1, 25)):
+        a, b, c = (rng.choice(nodes) for _ in range(3))
+        kind = rng.randint(0, 2)
+        nodes.append(gates.both(a, b) if kind == 0 else gates.differ(a, b) if kind == 1 else gates.choice(a, b, c))
+    return gates, nodes[-1]
+
+
+def literals(gates, goal):
+    return " ".join(" ".join(map(str, clause)) + " 0" for clause in gates.clauses + [[goal]])
+
+
+def line(gates, goal, budget):
+    return f"{budget} {gates.variables} {literals(gates, goal)}\n"
+
+
+def run(program, text):
+    """The first word of the answer, the seconds and the kilobytes."""
+    with tempfile.TemporaryFile("w+") as given:
+        given.write(text)
+        given.seek(0)
+        start = time.perf_counter()
+        child = subprocess.Popen(["/usr/bin/time", "-f", "%M", program], stdin=given, stdout=subprocess.PIPE, stderr=subprocess.PIPE, text=True)
+        out, errors = child.communicate()
+        return out.split(" ")[0].strip(), time.perf_counter() - start, int(errors.split()[-1])
+
+
+def minisat(gates, goal):
+    with tempfile.NamedTemporaryFile("w", suffix=".cnf") as cnf:
+        clauses = gates.clauses + [[goal]]
+        cnf.write(f"p cnf {gates.variables} {len(clauses)}\n" + "".join(" ".join(map(str, c)) + " 0\n" for c in clauses))
+        cnf.flush()
+        start = time.perf_counter()
+        out = subprocess.run(["minisat", "-no-pre", cnf.name], capture_output=True, text=True).stdout
+        seconds = time.perf_counter() - start
+        found = re.search(r"propagations\s*:\s*(\d+)\s*\((\d+|inf|nan)", out)
+        return f"minisat {seconds:.3f} s, {found.group(1)} propagations, {found.group(2)} a second" if found else f"minisat {seconds:.3f} s"
+
+
+SHAPES = [
+    (f"{name} of {inputs:,}, selector {'before' if before else 'behind'}", shape(inputs, before), 4 * inputs)
+    for name, shape, sizes in (("multiplexer", multiplexer, (1024, 4096)), ("if chain", chain, (1024, 4096)), ("select", multiplexer, (8192,)))
+    for inputs in sizes
+    for before in (True, False)
+] + [
+    ("unequal sums of 12 leaves, budget 4,000", unequal_sums(12), 4000),
+    ("unequal sums of 16 leaves, budget 4,000", unequal_sums(16), 4000),
+]
+
+
+def main():
+    program = sys.argv[1]
+    if sys.argv[2:3] == ["cases"]:
+        rng = random.Random(7)
+        with open(sys.argv[3], "w") as out:
+            for _ in range(10000):
+                out.write(line(*random_gates(rng), rng.choice([0, 1, 3, 1000])))
+        return
+    _, _, empty = run(program, "x\n")
+    for name, (gates, goal), budget in SHAPES:
+        text = line(gates, goal, budget)
+        answer, seconds, whole = run(program, text)
+        _, _, read = run(program, "-" + text)
+        _, reading, built = run(program, f"{text.rstrip()} {gates.variables + 1} 0\n")
+        formula = built - read
+        solver = whole - formula - empty - len(text) // 1024
+        beside = minisat(gates, goal) if shutil.which("minisat") else ""
+        print(
+            f"{name}: {gates.variables} variables, {len(gates.clauses) + 1} clauses, {answer}, {seconds - reading:.3f} s, "
+            f"formula {formula} KB, solver at most {solver} KB, program {whole} KB; {beside}"
+        )
+
+
+if __name__ == "__main__":
+    main()
