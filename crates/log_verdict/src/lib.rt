@@ -5,6 +5,3 @@ mod judge;
 mod lines;
 
 pub use judge::{LogAnswer, judge_one, judge_two};
-
-#[cfg(test)]
-mod tests;

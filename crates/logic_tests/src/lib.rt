@@ -3,3 +3,7 @@
 
 #[cfg(test)]
 mod encoding;
+#[cfg(test)]
+mod logs;
+#[cfg(test)]
+mod verdicts;

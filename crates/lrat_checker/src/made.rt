@@ -1,5 +1,7 @@
-ghost use Rattle.std.specs.Prelude.{◌≡◌, ℕ, ◌+◌, ◌<◌, ◌≤◌, length, All, IfOk};
-ghost use Rattle.lrat_checker.specs.Index.{Fits, StepFits};
+ghost use Rattle.std.specs.Prelude.{◌≡◌, ◌++◌, All, IfOk, OnOk};
+ghost use Rattle.std.specs.List.{flat_map};
+ghost use Rattle.std.specs.List.Sorted.{IsStrictlyIncreasing};
+ghost use Rattle.lrat_checker.specs.Index.{Fits, StepFits, clause_variables, step_variables};
 ghost use Rattle.lrat_checker.specs.Verdict.{all_entries, IsFresh};
 
 use crate::index::Entry;
@@ -8,54 +10,62 @@ use bits_core::NoMemory;
 use cnf_core::{Clause, Formula, Lit, Log, Step};
 use std::alloc::Global;
 
-/// What a check writes on, taken before it.
+/// What a check writes on, taken before it: the variables that occur, a mark for each, and where each clause stands.
 #[derive(Drop)]
 pub struct Marks {
+    pub(crate) variables: Vec<u32>,
     pub(crate) values: Vec<Mark>,
     pub(crate) entries: Vec<Entry>,
 }
 
-/// The larger of `top` and the variables of the clause.
-fn raised(top: u32, clause: &[Lit]) -> u32
-    ensures above { top ≤ result }
-    ensures fits { Fits (result + 1) clause.now }
+fn push_variables(variables: &mut Vec<u32>, clause: &[Lit]) -> Result<(), NoMemory>
+    ensures { OnOk result (variables.new.items ≡ variables.old.items ++ clause_variables clause.now) }
 {
-    let mut most = top;
     for lit in clause {
-        most = most.max(lit.variable());
+        variables.push(lit.variable())?;
     }
-    most
+    Ok(())
 }
 
-fn top_of_formula(formula: &[Clause]) -> u32
-    ensures { All (Fits (result + 1)) formula.now }
+fn push_of_formula(variables: &mut Vec<u32>, formula: &[Clause]) -> Result<(), NoMemory>
+    ensures { OnOk result (variables.new.items ≡ variables.old.items ++ flat_map clause_variables formula.now) }
 {
-    let mut top = 0;
     for clause in formula {
-        top = raised(top, clause.as_slice());
+        push_variables(variables, clause.as_slice())?;
     }
-    top
+    Ok(())
 }
 
-fn raised_by_step(top: u32, step: &Step) -> u32
-    ensures above { top ≤ result }
-    ensures fits { StepFits (result + 1) step.now }
+fn push_of_step(variables: &mut Vec<u32>, step: &Step) -> Result<(), NoMemory>
+    ensures { OnOk result (variables.new.items ≡ variables.old.items ++ step_variables step.now) }
 {
     match step {
-        Step::Add { lits, .. } => raised(top, lits.as_slice()),
-        Step::Delete { .. } => top,
+        Step::Add { lits, .. } => push_variables(variables, lits.as_slice()),
+        Step::Delete { .. } => Ok(()),
     }
 }
 
-fn top_of_log(top: u32, log: &[Step]) -> u32
-    ensures above { top ≤ result }
-    ensures fits { All (StepFits (result + 1)) log.now }
+fn push_of_log(variables: &mut Vec<u32>, log: &[Step]) -> Result<(), NoMemory>
+    ensures { OnOk result (variables.new.items ≡ variables.old.items ++ flat_map step_variables log.now) }
 {
-    let mut most = top;
     for step in log {
-        most = raised_by_step(most, step);
+        push_of_step(variables, step)?;
     }
-    most
+    Ok(())
+}
+
+/// The variables that occur, each once, in ascending order. It costs a sort of the literals.
+fn variables_of(alloc: Global, formula: &[Clause], log: &[Step]) -> Result<Vec<u32>, NoMemory>
+    ensures ascend { IfOk result (λ v. IsStrictlyIncreasing v.items) }
+    ensures formula_fits { IfOk result (λ v. All (Fits v.items) formula.now) }
+    ensures log_fits { IfOk result (λ v. All (StepFits v.items) log.now) }
+{
+    let mut variables = Vec::new(alloc);
+    push_of_formula(&mut variables, formula)?;
+    push_of_log(&mut variables, log)?;
+    variables.sort_unstable();
+    variables.dedup();
+    Ok(variables)
 }
 
 fn entries_of(alloc: Global, formula: &[Clause], log: &[Step]) -> Result<Vec<Entry>, NoMemory>
@@ -81,16 +91,20 @@ fn entries_of(alloc: Global, formula: &[Clause], log: &[Step]) -> Result<Vec<Ent
     Ok(entries)
 }
 
-/// The marks for one check of this log.
+/// The marks for one check of this log. The memory is linear in the texts, however large the numbers of the variables are; the time is that of a sort of the literals.
 pub fn make_marks(alloc: Global, formula: &Formula, log: &Log) -> Result<Marks, NoMemory>
     ensures { IfOk result (λ marks. IsFresh formula.now.clauses log.now marks) }
 {
-    let top = top_of_log(top_of_formula(formula.clauses.as_slice()), log.as_slice());
+    let variables = variables_of(alloc, formula.clauses.as_slice(), log.as_slice())?;
     let none = Mark {
         stamp: 0,
         value: false,
     };
-    let values = vec![in alloc; none; top as usize + 1]?;
+    let values = vec![in alloc; none; variables.len()]?;
     let entries = entries_of(alloc, formula.clauses.as_slice(), log.as_slice())?;
-    Ok(Marks { values, entries })
+    Ok(Marks {
+        variables,
+        values,
+        entries,
+    })
 }

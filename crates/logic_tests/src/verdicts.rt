@@ -1,4 +1,4 @@
-use crate::{LogAnswer, judge_one, judge_two};
+use log_verdict::{LogAnswer, judge_one, judge_two};
 use std::test::Fail;
 
 #[test]

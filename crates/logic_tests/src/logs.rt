@@ -1,5 +1,5 @@
-use crate::{Checked, check, make_marks, read_lrat, write_lrat};
 use cnf_core::{TextFault, read_dimacs};
+use lrat_checker::{Checked, check, make_marks, read_lrat, write_lrat};
 use std::alloc::Global;
 use std::test::Fail;
 
