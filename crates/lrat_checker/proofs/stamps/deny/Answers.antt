@@ -1,9 +1,8 @@
-use Rattle.std.proofs.Common.{arith, ◌≡◌, ◌+◌, ◌<◌, ◌∷◌, sym, ap, ◌∙◌, length, get_or, take, drop}
+use Rattle.std.proofs.Common.{arith, ◌≡◌, ◌+◌, ◌∷◌, sym, ap, ◌∙◌, get_or, take, drop}
 use Rattle.std.specs.List.{fold}
 use Rattle.std.proofs.lemmas.List.{at_drop_more}
 use Rattle.std.proofs.lemmas.List.Sums.{fold_more}
 use Rattle.cnf_core.specs.declared.lit.Lit.{Lit}
-use Rattle.cnf_core.specs.Lit.{variable_of}
 use Rattle.cnf_core.specs.Values.{Values, no_values, make_false}
 use Rattle.lrat_checker.specs.Marks.{reads}
 use Rattle.lrat_checker.proofs.MarkLaws.{reads_unused, denied_by}

@@ -1,0 +1,4 @@
+pub mod StepLaws
+pub mod LogLaws
+pub mod RefusedLaws
+pub mod JoinedLaws

@@ -1,0 +1,3 @@
+pub mod NumeralLaws
+pub mod RunLaws
+pub mod SpelledLaws
