@@ -52,6 +52,15 @@ BY_HAND = [
     ("8:1 8:0 ; s0 u8:1 + b.0 s0 n.1 block2 s0 u8:1 + b.0 s0 n.1 block2 turns2", "3 0 / 1 3"),
     # 24 is even: 24 ^ 0f = 2b, whose high half 2 is the low half of the result. 25 is odd: 25 ^ 0f = 2a, and 1 more is 2b (10.4).
     ("8:24 8:25 8:0*2 ; s0 call b.2 s1 call b.3 block2", "24 25 2 2b / 24 25 0 0"),
+    # The lowest 8 bits of 724 are passed (10.4.3): 24, as above.
+    ("12:724 ; s0 call", "8:2"),
+    # Read as signed, 80 is -128 (5.5): less than 1, and the arithmetic shift fills with ones.
+    ("8:80 8:1 ; s0 signed t1 <", "1:1"),
+    ("8:80 ; s0 signed u2:3 >>>", "8:f0"),
+    # In a vector [0:7], whose index counts down from place 7, index 2 is place 5 (5.2.1).
+    ("8:0 3:2 ; u1:1 s1 b-0.7.1", "20 2 / 0 2"),
+    # Of ab the digit a goes to the high half of signal 0 and b to the low half of signal 1 (9.2.1, 5.1.14).
+    ("8:0 8:0 ; u8:ab l.0.4.4 l.1.0.4 lpair b=", "a0 b / 0 0"),
 ]
 
 # An expression: `verilog` gives its name in a module, and adds there what computes it. A statement's `verilog` adds its lines.
@@ -225,6 +234,12 @@ def repeated(count, a):
     return Expression(length, False, a.words + [f"r{count}"], lambda m: m.operator(length, False, "{%d{%s}}" % (count, a.verilog(m))))
 
 
+def with_sign(a, signed):
+    """The same bits, read with or without sign."""
+    word = "signed" if signed else "unsigned"
+    return Expression(a.length, signed, a.words + [word], lambda m: m.operator(a.length, signed, f"${word}({a.verilog(m)})"))
+
+
 def call(a):
     return Expression(8, False, a.words + ["call"], lambda m: m.operator(8, False, f"called({a.verilog(m)})"))
 
@@ -258,14 +273,48 @@ def write_part(case, blocking, number, low, length, value):
     return Statement(value.words + [f"{letter}.{number}.{low}.{length}"], verilog)
 
 
-def write_at(case, blocking, number, offset, length, value, index):
+def write_at(case, blocking, number, offset, length, value, index, down=False):
     letter, base, arrow = kind_of(blocking)
 
     def verilog(m):
         name, at = m.hold(value.length, False, value.verilog(m)), m.hold(index.length, index.signed, index.verilog(m))
-        m.write(f"{base}_{number}", case.signals[number][0], m.place(at, offset, False), length, name, arrow)
+        m.write(f"{base}_{number}", case.signals[number][0], m.place(at, offset, down), length, name, arrow)
 
-    return Statement(value.words + index.words + [f"{letter}@{number}.{offset}.{length}"], verilog)
+    return Statement(value.words + index.words + [f"{letter}{'-' if down else '@'}{number}.{offset}.{length}"], verilog)
+
+
+# A part of a concatenation on the left: the bits of a signal from a place on, where `index` is none, and else from a place that it gives.
+LeftPart = namedtuple("LeftPart", "number low length index down")
+
+
+def write_parts(case, blocking, parts, value):
+    """Parts of signals side by side on the left, the first the highest: Verilog's own concatenation, and part by part."""
+    letter, base, arrow = kind_of(blocking)
+    words = list(value.words)
+    for at, part in enumerate(parts):
+        whole = part.index is None and (part.low, part.length) == (0, case.signals[part.number][0])
+        place = f"{part.number}" if whole else f"{part.number}.{part.low}.{part.length}"
+        words += [f"l.{place}"] if part.index is None else part.index.words + [f"l{'-' if part.down else '@'}{place}"]
+        words += ["lpair"] if at else []
+
+    def verilog(m):
+        length = sum(part.length for part in parts)
+        name = m.hold(length, False, value.verilog(m))
+        places = []
+        for part in parts:
+            at = "200'sd0" if part.index is None else m.hold(part.index.length, part.index.signed, part.index.verilog(m))
+            places.append(m.place(at, -part.low if part.index is None else part.low, part.down))
+        if not m.bitwise and all(part.index is None for part in parts):
+            texts = [f"{base}_{part.number}[{part.low + part.length - 1}:{part.low}]" for part in parts]
+            m.lines.append(f"{{{', '.join(texts)}}} {arrow} {name};")
+            return
+        rest = length
+        for part, low in zip(parts, places):
+            rest -= part.length
+            bits = m.hold(part.length, False, f"{name}[{rest + part.length - 1}:{rest}]")
+            m.write(f"{base}_{part.number}", case.signals[part.number][0], low, part.length, bits, arrow)
+
+    return Statement(words + [f"{letter}="], verilog)
 
 
 SKIP = Statement(["skip"], lambda m: None)
@@ -677,6 +726,68 @@ def written_together():
     yield done(c, write_two(False, 0, 1, concatenation([c.signal(1), c.signal(0)])))
 
 
+def long_arguments():
+    """Calls whose argument has more bits than the input: the lowest ones are passed."""
+    for n, signed in itertools.product((9, 16, 65, 128), (False, True)):
+        for value in (random.getrandbits(n), (1 << n) - 1, 0xA5, 1 << (n - 1)):
+            yield single(lambda c: call(either(c, n, value, signed)))
+    for n in (9, 12):
+        yield single(lambda c: call(concatenation([c.operand(n - 8, 1), c.operand(8, random.getrandbits(8))])))
+        yield single(lambda c: binary("+", call(extended(c.operand(8, 0x8F, True), n, True)), call(extended(c.operand(7, 0x25), n, False))))
+
+
+def other_signs():
+    """Operands and results that are read with another sign."""
+    for n, by in itertools.product((1, 8, 65, 128), (False, True)):
+        for op in ORDER:
+            for a, b in list(pairs(n))[:2]:
+                yield single(lambda c: binary(op, with_sign(c.operand(n, a, not by), by), c.operand(n, b, by)))
+        high = random.getrandbits(n) | 1 << (n - 1)
+        yield single(lambda c: binary(">>>", with_sign(c.operand(n, high, False), True), constant(4, 1)))
+        yield single(lambda c: binary(">>", with_sign(c.operand(n, high, True), False), constant(4, 1)))
+        yield single(lambda c: extended(with_sign(c.operand(n, high, not by), by), n + 5, by))
+        yield single(lambda c: binary("<", with_sign(binary("+", c.operand(n, high), c.operand(n, 0)), by), c.operand(n, 0, True)))
+    for op in ARITHMETIC + BITWISE:
+        for a, b in ((0x80, 0x7F), (0xFF, 1)):
+            yield single(lambda c: binary("<", with_sign(binary(op, c.operand(8, a), c.operand(8, b, True)), True), c.operand(8, 3, True)))
+    for value in (0, 0x80, 0xF3):
+        c = setting((8, value), (8, 0))
+        yield done(c, choice(binary("<", with_sign(c.signal(0), True), u(8, 0)._replace(signed=True, words=["i8:0"], verilog=lambda m: "8'sh0")),
+                             write(True, 1, u(8, 1)), write(True, 1, u(8, 2))))
+
+
+def written_down():
+    """Writes at places whose index counts down."""
+    for n in (8, 65):
+        value = random.getrandbits(n)
+        for low, offset, length in [(0, n - 1, 1), (n - 1, n - 1, 1), (2, n - 1, 3), (n - 2, n, 4), (-1, 7, 4), (-4, 7, 4), (n, 7, 3), (n + 9, 3, 4), (0, -3, 4), (1, 100, 8)]:
+            index, k = offset - low, random.choice([9, 32, 64, 128])
+            c = setting((n, value), (8, random.getrandbits(8)), (k, index % (1 << k)))
+            yield done(c, write_at(c, random.random() < 0.5, 0, offset, length, c.signal(1), c.signal(2, index < 0 or random.random() < 0.3), True))
+    for blocking, (k, index) in itertools.product((True, False), ((128, 1 << 127), (64, (1 << 63) + 1), (33, 1 << 32))):
+        c = setting((8, 0x3C), (k, index))
+        yield done(c, write_at(c, blocking, 0, 7, 4, u(4, 5), c.signal(1, random.random() < 0.5), True))
+
+
+def written_parts():
+    """Concatenations of parts on the left."""
+    def bits(number, low, length):
+        return LeftPart(number, low, length, None, False)
+
+    for blocking in (True, False):
+        for _ in range(6):
+            c = setting((8, random.getrandbits(8)), (16, random.getrandbits(16)), (33, random.getrandbits(33)), (3, random.getrandbits(3)))
+            a, b, d = random.randrange(1, 8), random.randrange(1, 12), random.randrange(20)
+            yield done(c, write_parts(c, blocking, [bits(0, a, 8 - a), bits(1, b, 4)], c.signal(2)))
+            yield done(c, write_parts(c, blocking, [bits(2, d, 9), bits(0, 0, 8), bits(3, 1, 1)], extended(c.signal(1), 20, False)))
+            yield done(c, write_parts(c, blocking, [bits(1, 8, 8), bits(1, 0, 8)], concatenation([select(c.signal(1), 0, 8), select(c.signal(1), 8, 8)])))
+            index, other = select(c.signal(0), random.randrange(6), 3), c.signal(3, random.random() < 0.5)
+            yield done(c, write_parts(c, blocking, [LeftPart(0, 0, 2, other, False), LeftPart(2, random.randint(-2, 40), 4, index, random.random() < 0.5)], c.signal(1)))
+            yield done(c, write_parts(c, blocking, [bits(3, 0, 3), LeftPart(1, random.choice([-1, 0, 15]), 5, other, False), bits(0, a, 8 - a)], c.signal(2)))
+    c = setting((8, 0x12), (8, 0x34))
+    yield done(c, write_parts(c, True, [bits(0, 4, 4), bits(1, 4, 4), bits(0, 0, 4), bits(1, 0, 4)], concatenation([c.signal(0), c.signal(1)])))
+
+
 def grown_item(case, n):
     return random.choice([constant(n, random.getrandbits(n)), grown(case, n, 0), (random.getrandbits(n), random.getrandbits(n))])
 
@@ -747,6 +858,7 @@ def answer(found, number, case):
 def table():
     made = [operators(), shifts(), lengths(), places(), long_ones(), calls(), signs(), random_expressions(110)]
     made += [branches(), cases(), loops(), orders(), written_places(), written_together(), random_statements(42)]
+    made += [long_arguments(), other_signs(), written_down(), written_parts()]
     rows = {}
     for case in itertools.chain(*made):
         rows.setdefault(case.line(), case)

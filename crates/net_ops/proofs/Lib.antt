@@ -6,5 +6,4 @@ pub mod MeaningLaws
 pub mod SumLaws
 pub mod MoveLaws
 pub mod WordSums
-pub mod TestLaws
 pub mod WordMoves

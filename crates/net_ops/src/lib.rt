@@ -17,6 +17,3 @@ pub use operators::{binary_nodes, unary_nodes};
 pub use places::{constant_nodes, copy_nodes, extend_nodes, place_nodes, select_nodes};
 pub use shifts::{shifted_down, shifted_up};
 pub use words::{Reduction, choose_all, invert_all, join_all, reduce, truth};
-
-#[cfg(test)]
-mod tests;

@@ -1,40 +1,19 @@
--- Trees that are formed, told by tests.
-use Rattle.std.specs.Prelude.{◌≡◌, ℕ, Bool, true, false, ◌&&◌, ◌==◌, List, [], ◌∷◌, length, map}
-use Rattle.std.specs.List.{list_all}
-use Rattle.design_core.specs.declared.tree.DBase.{DBase}
+-- Trees that are formed over signals of some values.
+use Rattle.std.specs.Prelude.{◌≡◌, Bool, true, false, List, [], length, map}
 use Rattle.design_core.specs.declared.tree.DExpr.{DExpr}
-use Rattle.design_core.specs.declared.tree.DLeft.{DLeft}
 use Rattle.design_core.specs.declared.tree.DStmt.{DStmt}
-use Rattle.design_core.specs.declared.tree.DMatch.{DMatch, out-DMatch}
-use Rattle.design_core.specs.declared.tree.DArm.{DArm, out-DArm}
-use Rattle.design_core.specs.Formed.{base_fits, base_length, of_kind, sized_expr, sized_left, sized_match, sized_stmt}
-
--- whether an expression is formed, where these are the lengths of the signals and of the locals
-unfoldable pub is_formed : List ℕ → List ℕ → DExpr → Bool
-is_formed vs ls e = (sized_expr vs e).formed ls
-
--- an expression that is formed
-abbrev pub IsMade : List ℕ → List ℕ → DExpr → Type 0
-IsMade vs ls e = is_formed vs ls e ≡ true
+use Rattle.design_core.specs.declared.tree.DMatch.{DMatch}
+use Rattle.design_core.specs.declared.tree.DArm.{DArm}
+use Rattle.formed_trees.specs.declared.lefts.SizedLeft.{SizedLeft}
+use Rattle.formed_trees.specs.Trees.{is_arm, is_body, is_formed, is_item, is_left}
 
 -- an expression outside functions, over signals of these values
 abbrev pub IsExpr : List (List Bool) → DExpr → Type 0
 IsExpr signals e = is_formed (map length signals) [] e ≡ true
 
--- whether a vector is one that a left side may name, of this length
-abbrev pub is_vector_of : List ℕ → List ℕ → Bool → DBase → ℕ → Bool
-is_vector_of vs ls inside b n = base_fits vs ls inside b && (base_length vs ls b == n)
-
--- whether a left side is formed and has this length
-unfoldable pub is_left : List ℕ → List ℕ → Bool → ℕ → DLeft → Bool
-is_left vs ls inside n l = (sized_left vs l).formed ls inside && ((sized_left vs l).length == n)
-
--- whether a statement is formed, with writes of some kinds
-unfoldable pub is_body : List ℕ → List ℕ → Bool → (Bool → Bool) → DStmt → Bool
-is_body vs ls inside kinds s = (sized_stmt vs s).formed ls inside kinds
-
-abbrev pub IsBody : List ℕ → List ℕ → Bool → (Bool → Bool) → DStmt → Type 0
-IsBody vs ls inside kinds s = is_body vs ls inside kinds s ≡ true
+-- a left side outside functions, of the length that it carries
+abbrev pub IsLeft : List (List Bool) → SizedLeft → Type 0
+IsLeft signals l = is_left (map length signals) [] false l.length l.left ≡ true
 
 abbrev pub any_kind : Bool → Bool
 any_kind blocking = true
@@ -43,36 +22,8 @@ any_kind blocking = true
 abbrev pub IsStmt : List (List Bool) → DStmt → Type 0
 IsStmt signals s = is_body (map length signals) [] false any_kind s ≡ true
 
--- whether an item of a case is formed, for a selector of its own length
-unfoldable pub is_item : List ℕ → List ℕ → DMatch → Bool
-is_item vs ls m = (sized_match vs m).formed (out-DMatch m).value.length ls
-
 abbrev pub IsItem : List (List Bool) → DMatch → Type 0
 IsItem signals m = is_item (map length signals) [] m ≡ true
 
--- whether an arm of a case is formed, its items for selectors of their own lengths
-unfoldable pub is_arm : List ℕ → List ℕ → Bool → (Bool → Bool) → DArm → Bool
-is_arm vs ls inside kinds a = list_all (is_item vs ls) (out-DArm a).matches && is_body vs ls inside kinds (out-DArm a).body
-
 abbrev pub IsArm : List (List Bool) → DArm → Type 0
 IsArm signals a = is_arm (map length signals) [] false any_kind a ≡ true
-
--- whether an item has this length
-abbrev pub has_size : ℕ → DMatch → Bool
-has_size n m = (out-DMatch m).value.length == n
-
--- whether all items of an arm have this length
-abbrev pub has_sizes : ℕ → DArm → Bool
-has_sizes n a = list_all (has_size n) (out-DArm a).matches
-
--- the lengths of the result, the input and the local of the function that is called
-abbrev pub bytes : List ℕ
-bytes = 8 ∷ 8 ∷ 8 ∷ []
-
--- a statement of that function
-abbrev pub IsInside : DStmt → Type 0
-IsInside s = (vs : List ℕ) → is_body vs bytes true (of_kind true) s ≡ true
-
--- an expression of that function
-abbrev pub IsWithin : DExpr → Type 0
-IsWithin e = (vs : List ℕ) → is_formed vs bytes e ≡ true

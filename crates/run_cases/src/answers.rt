@@ -7,6 +7,7 @@ use crate::numbers::{decimal, value};
 use crate::steps::step;
 use crate::words::read;
 use bits_core::{Bits, Duplicate, Items, NoMemory};
+use case_lines::Cases;
 use design_core::{DExpr, DStmt};
 use std::alloc::{AllocError, Global};
 use stmt_exec::{Env, eval, exec};
@@ -222,14 +223,18 @@ fn put_answer(alloc: Global, out: &mut Vec<u8>, line: &str) -> Result<bool, NoMe
     }
 }
 
-/// The answer to a line, with its newline.
-pub fn answer(alloc: Global, line: &str) -> Result<Vec<u8>, AllocError> {
-    let mut out = Vec::new(alloc);
-    match put_answer(alloc, &mut out, line) {
-        Ok(true) => {}
-        Ok(false) => out.push(b'?')?,
-        Err(NoMemory) => out.extend_from_slice(b"no memory")?,
+/// Each line is a case of its own.
+#[derive(Drop)]
+pub struct Runs;
+
+impl Cases for Runs {
+    fn answer(&mut self, alloc: Global, line: &str) -> Result<Option<Vec<u8>>, AllocError> {
+        let mut out = Vec::new(alloc);
+        match put_answer(alloc, &mut out, line) {
+            Ok(true) => {}
+            Ok(false) => out.push(b'?')?,
+            Err(NoMemory) => out.extend_from_slice(b"no memory")?,
+        }
+        Ok(Some(out))
     }
-    out.push(b'\n')?;
-    Ok(out)
 }

@@ -1,8 +1,9 @@
 ghost use Rattle.std.specs.Prelude.{◌≡◌, All, IfOk, IfSome};
-ghost use Rattle.run_cases.specs.Trees.{IsArm, IsExpr, IsItem, IsStmt};
+ghost use Rattle.run_cases.specs.Trees.{IsArm, IsExpr, IsItem, IsLeft, IsStmt};
 
 use bits_core::{Bits, NoMemory};
 use design_core::{DArm, DExpr, DMatch, DStmt};
+use formed_trees::SizedLeft;
 use std::alloc::Global;
 use std::mem;
 
@@ -12,10 +13,12 @@ pub struct Machine {
     alloc: Global,
     pub signals: Vec<Bits>,
     exprs: Vec<DExpr>,
+    lefts: Vec<SizedLeft>,
     stmts: Vec<DStmt>,
     items: Vec<DMatch>,
     arms: Vec<DArm>,
     ghost exprs_are: { All (IsExpr signals.items) exprs.items },
+    ghost lefts_are: { All (IsLeft signals.items) lefts.items },
     ghost stmts_are: { All (IsStmt signals.items) stmts.items },
     ghost items_are: { All (IsItem signals.items) items.items },
     ghost arms_are: { All (IsArm signals.items) arms.items },
@@ -28,6 +31,7 @@ impl Machine {
             alloc,
             signals,
             exprs: Vec::new(alloc),
+            lefts: Vec::new(alloc),
             stmts: Vec::new(alloc),
             items: Vec::new(alloc),
             arms: Vec::new(alloc),
@@ -37,6 +41,7 @@ impl Machine {
     /// Whether nothing is left.
     pub fn is_empty(&self) -> bool {
         self.exprs.is_empty()
+            && self.lefts.is_empty()
             && self.stmts.is_empty()
             && self.items.is_empty()
             && self.arms.is_empty()
@@ -78,6 +83,28 @@ impl Machine {
             return Ok(None);
         }
         Ok(Some(self.exprs.split_off(all - count)?))
+    }
+
+    /// The left side on top.
+    pub fn pop_left(&mut self) -> Option<SizedLeft>
+        ensures same { self.new.signals.items ≡ self.old.signals.items }
+        ensures formed { IfSome result (IsLeft self.new.signals.items) }
+    {
+        self.lefts.pop()
+    }
+
+    /// Puts a left side on top, and says whether there is one.
+    pub fn put_left(&mut self, made: Option<SizedLeft>) -> Result<bool, NoMemory>
+        requires { IfSome made (IsLeft self.old.signals.items) }
+        ensures { self.new.signals.items ≡ self.old.signals.items }
+    {
+        match made {
+            None => Ok(false),
+            Some(left) => {
+                self.lefts.push(left)?;
+                Ok(true)
+            }
+        }
     }
 
     /// The statement on top.

@@ -1,3 +1,5 @@
+use formed_trees::fits;
+
 // The value of a hexadecimal digit in small letters.
 fn digit(byte: u8) -> Option<u8> {
     match byte {
@@ -29,11 +31,6 @@ pub fn decimal(text: &str) -> Option<u32> {
 /// A decimal number that may be below 0.
 pub fn place(text: &str) -> Option<i64> {
     text.parse::<i64>().ok()
-}
-
-/// Whether a number has at most so many bits.
-pub fn fits(value: u128, length: u32) -> bool {
-    length >= 128 || value >> length == 0
 }
 
 /// `LENGTH:HEX`, a value of 1 to 65,536 bits.

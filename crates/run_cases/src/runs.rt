@@ -1,47 +1,52 @@
 ghost use Rattle.std.specs.Prelude.{◌≡◌, Bool, false, IfOk, IfSome, length, map};
 ghost use Rattle.design_core.specs.Formed.{has_length};
-ghost use Rattle.run_cases.specs.Trees.{IsExpr, IsStmt};
+ghost use Rattle.run_cases.specs.Trees.{IsExpr, IsLeft, IsStmt};
 
 use crate::machine::Machine;
 use crate::steps::signal_length;
 use crate::words::Left;
-use crate::{lefts, statements as trees};
-use bits_core::NoMemory;
-use design_core::DBase;
+use bits_core::{Bits, NoMemory};
+use design_core::{DBase, DExpr};
+use formed_trees::{self as trees, SizedLeft};
 use std::alloc::Global;
 
-fn put_whole(machine: &mut Machine, number: u32, blocking: bool) -> Result<bool, NoMemory> {
-    let Some(right) = machine.pop() else {
-        return Ok(false);
-    };
-    let Some(length) = signal_length(machine.signals.as_slice(), number) else {
-        return Ok(false);
-    };
-    let Some(left) = lefts::whole(DBase::Signal(number), length) else {
-        return Ok(false);
-    };
-    let made = trees::write(left, length, right, blocking);
-    machine.put_stmt(made)
+fn whole(signals: &[Bits], number: u32) -> Option<SizedLeft>
+    ensures { IfSome result (IsLeft signals.now) }
+{
+    let length = signal_length(signals, number)?;
+    let left = trees::whole(DBase::Signal(number), length)?;
+    Some(SizedLeft { left, length })
 }
 
-fn put_part(
-    machine: &mut Machine,
-    number: u32,
-    low: i64,
-    length: u32,
-    blocking: bool,
-) -> Result<bool, NoMemory> {
-    let Some(right) = machine.pop() else {
-        return Ok(false);
-    };
-    if number as usize >= machine.signals.len() {
-        return Ok(false);
+fn part(signals: &[Bits], number: u32, low: i64, length: u32) -> Option<SizedLeft>
+    ensures { IfSome result (IsLeft signals.now) }
+{
+    if number as usize >= signals.len() {
+        return None;
     }
-    let Some(left) = lefts::part(DBase::Signal(number), low, length) else {
-        return Ok(false);
-    };
-    let made = trees::write(left, length, right, blocking);
-    machine.put_stmt(made)
+    let left = trees::part(DBase::Signal(number), low, length)?;
+    Some(SizedLeft { left, length })
+}
+
+fn at(
+    alloc: Global,
+    signals: &[Bits],
+    number: u32,
+    index: DExpr,
+    offset: i64,
+    down: bool,
+    length: u32,
+) -> Result<Option<SizedLeft>, NoMemory>
+    requires { IsExpr signals.now index }
+    ensures { IfOk result (λ made. IfSome made (IsLeft signals.now)) }
+{
+    if number as usize >= signals.len() {
+        return Ok(None);
+    }
+    match trees::at(alloc, DBase::Signal(number), index, offset, down, length)? {
+        None => Ok(None),
+        Some(left) => Ok(Some(SizedLeft { left, length })),
+    }
 }
 
 fn put_at(
@@ -49,54 +54,88 @@ fn put_at(
     machine: &mut Machine,
     number: u32,
     offset: i64,
+    down: bool,
     length: u32,
-    blocking: bool,
 ) -> Result<bool, NoMemory> {
     let Some(index) = machine.pop() else {
         return Ok(false);
     };
-    let Some(right) = machine.pop() else {
-        return Ok(false);
-    };
-    if number as usize >= machine.signals.len() {
-        return Ok(false);
-    }
-    let Some(left) = lefts::at(alloc, DBase::Signal(number), index, offset, length)? else {
-        return Ok(false);
-    };
-    let made = trees::write(left, length, right, blocking);
-    machine.put_stmt(made)
+    let made = at(
+        alloc,
+        machine.signals.as_slice(),
+        number,
+        index,
+        offset,
+        down,
+        length,
+    )?;
+    machine.put_left(made)
 }
 
-fn put_pair(
-    alloc: Global,
-    machine: &mut Machine,
-    high: u32,
-    low: u32,
-    blocking: bool,
-) -> Result<bool, NoMemory> {
+/// A left side.
+pub fn put_left(alloc: Global, machine: &mut Machine, left: Left) -> Result<bool, NoMemory> {
+    match left {
+        Left::Whole(number) => {
+            let made = whole(machine.signals.as_slice(), number);
+            machine.put_left(made)
+        }
+        Left::Part {
+            number,
+            low,
+            length,
+        } => {
+            let made = part(machine.signals.as_slice(), number, low, length);
+            machine.put_left(made)
+        }
+        Left::At {
+            number,
+            offset,
+            down,
+            length,
+        } => put_at(alloc, machine, number, offset, down, length),
+        Left::Pair { high, low } => put_two(alloc, machine, high, low),
+    }
+}
+
+fn put_two(alloc: Global, machine: &mut Machine, high: u32, low: u32) -> Result<bool, NoMemory> {
+    let high = whole(machine.signals.as_slice(), high);
+    if !machine.put_left(high)? {
+        return Ok(false);
+    }
+    let low = whole(machine.signals.as_slice(), low);
+    if !machine.put_left(low)? {
+        return Ok(false);
+    }
+    put_pair(alloc, machine)
+}
+
+/// The two left sides on top side by side, the upper one the lower half.
+pub fn put_pair(alloc: Global, machine: &mut Machine) -> Result<bool, NoMemory> {
+    let Some(low) = machine.pop_left() else {
+        return Ok(false);
+    };
+    let Some(high) = machine.pop_left() else {
+        return Ok(false);
+    };
+    let Some(length) = high.length.checked_add(low.length) else {
+        return Ok(false);
+    };
+    let made = trees::pair(alloc, high.left, high.length, low.left, low.length, length)?;
+    let Some(left) = made else {
+        return Ok(false);
+    };
+    machine.put_left(Some(SizedLeft { left, length }))
+}
+
+/// An assignment of the expression on top to the left side on top.
+pub fn put_assignment(machine: &mut Machine, blocking: bool) -> Result<bool, NoMemory> {
+    let Some(left) = machine.pop_left() else {
+        return Ok(false);
+    };
     let Some(right) = machine.pop() else {
         return Ok(false);
     };
-    let Some(high_length) = signal_length(machine.signals.as_slice(), high) else {
-        return Ok(false);
-    };
-    let Some(low_length) = signal_length(machine.signals.as_slice(), low) else {
-        return Ok(false);
-    };
-    let Some(high) = lefts::whole(DBase::Signal(high), high_length) else {
-        return Ok(false);
-    };
-    let Some(low) = lefts::whole(DBase::Signal(low), low_length) else {
-        return Ok(false);
-    };
-    let Some(length) = high_length.checked_add(low_length) else {
-        return Ok(false);
-    };
-    let Some(left) = lefts::pair(alloc, high, high_length, low, low_length, length)? else {
-        return Ok(false);
-    };
-    let made = trees::write(left, length, right, blocking);
+    let made = trees::write(left.left, left.length, right, blocking);
     machine.put_stmt(made)
 }
 
@@ -107,20 +146,10 @@ pub fn put_write(
     left: Left,
     blocking: bool,
 ) -> Result<bool, NoMemory> {
-    match left {
-        Left::Whole(number) => put_whole(machine, number, blocking),
-        Left::Part {
-            number,
-            low,
-            length,
-        } => put_part(machine, number, low, length, blocking),
-        Left::At {
-            number,
-            offset,
-            length,
-        } => put_at(alloc, machine, number, offset, length, blocking),
-        Left::Pair { high, low } => put_pair(alloc, machine, high, low, blocking),
+    if !put_left(alloc, machine, left)? {
+        return Ok(false);
     }
+    put_assignment(machine, blocking)
 }
 
 /// A block of the statements on top, or the turns of a loop.

@@ -1,16 +1,16 @@
 ghost use Rattle.std.specs.Prelude.{◌≡◌, IfSome, true, length, map};
 ghost use Rattle.design_core.specs.Formed.{has_length};
 
-use crate::calls::call;
-use crate::expressions as trees;
 use crate::machine::Machine;
 use crate::runs::{
-    put_arm, put_branch, put_case, put_case_else, put_free_item, put_item, put_statements,
-    put_write,
+    put_arm, put_assignment, put_branch, put_case, put_case_else, put_free_item, put_item,
+    put_left, put_pair, put_statements, put_write,
 };
 use crate::words::Word;
 use bits_core::{Bits, NoMemory};
+use called_function::call;
 use design_core::{Binary, Unary};
+use formed_trees as trees;
 use std::alloc::Global;
 
 /// The length of a signal, where there is one of this number.
@@ -90,6 +90,14 @@ fn put_extend(
     machine.put(made)
 }
 
+fn put_sign(alloc: Global, machine: &mut Machine, signed: bool) -> Result<bool, NoMemory> {
+    let Some(a) = machine.pop() else {
+        return Ok(false);
+    };
+    let made = trees::with_sign(alloc, a, signed)?;
+    machine.put(made)
+}
+
 fn put_select(
     alloc: Global,
     machine: &mut Machine,
@@ -157,6 +165,7 @@ fn put_expression(alloc: Global, machine: &mut Machine, word: Word) -> Result<bo
         Word::Binary(op) => put_binary(alloc, machine, op),
         Word::Mux => put_mux(alloc, machine),
         Word::Extend { length, by_sign } => put_extend(alloc, machine, length, by_sign),
+        Word::Sign(signed) => put_sign(alloc, machine, signed),
         Word::Select { low, length } => put_select(alloc, machine, low, length),
         Word::SelectAt {
             offset,
@@ -174,6 +183,9 @@ fn put_expression(alloc: Global, machine: &mut Machine, word: Word) -> Result<bo
 pub fn step(alloc: Global, machine: &mut Machine, word: Word) -> Result<bool, NoMemory> {
     match word {
         Word::Write { left, blocking } => put_write(alloc, machine, left, blocking),
+        Word::Left(left) => put_left(alloc, machine, left),
+        Word::LeftPair => put_pair(alloc, machine),
+        Word::Assign { blocking } => put_assignment(machine, blocking),
         Word::Block(count) => put_statements(machine, count, false),
         Word::Turns(count) => put_statements(machine, count, true),
         Word::If => put_branch(alloc, machine),

@@ -1,7 +1,7 @@
 use crate::numbers::{decimal, hexadecimal, place, value};
 use design_core::{Binary, Unary};
 
-/// What an assignment writes to: a signal, a part of it, a part at a place that an index gives, or two signals.
+/// What an assignment writes to: a signal, a part of it, a part at a place that an index gives, which counts up or down, or two signals.
 #[derive(Clone, Copy)]
 pub enum Left {
     Whole(u32),
@@ -13,6 +13,7 @@ pub enum Left {
     At {
         number: u32,
         offset: i64,
+        down: bool,
         length: u32,
     },
     Pair {
@@ -49,8 +50,14 @@ pub enum Word {
         down: bool,
         length: u32,
     },
+    Sign(bool),
     Concat(u32),
     Repeat(u32),
+    Left(Left),
+    LeftPair,
+    Assign {
+        blocking: bool,
+    },
     Write {
         left: Left,
         blocking: bool,
@@ -131,6 +138,11 @@ fn plain(word: &str) -> Option<Word> {
         "case" => Some(Word::Case),
         "case.d" => Some(Word::CaseElse),
         "call" => Some(Word::Call),
+        "signed" => Some(Word::Sign(true)),
+        "unsigned" => Some(Word::Sign(false)),
+        "lpair" => Some(Word::LeftPair),
+        "b=" => Some(Word::Assign { blocking: true }),
+        "n=" => Some(Word::Assign { blocking: false }),
         _ => None,
     }
 }
@@ -166,14 +178,22 @@ fn part(text: &str) -> Option<(u32, i64, u32)> {
     Some((decimal(number)?, place(low)?, decimal(length)?))
 }
 
+fn target_at(text: &str, down: bool) -> Option<Left> {
+    let (number, offset, length) = part(text)?;
+    Some(Left::At {
+        number,
+        offset,
+        down,
+        length,
+    })
+}
+
 fn target(text: &str) -> Option<Left> {
     if let Some(at) = text.strip_prefix("@") {
-        let (number, offset, length) = part(at)?;
-        return Some(Left::At {
-            number,
-            offset,
-            length,
-        });
+        return target_at(at, false);
+    }
+    if let Some(at) = text.strip_prefix("-") {
+        return target_at(at, true);
     }
     let Some(whole) = text.strip_prefix(".") else {
         let (high, low) = text.split_once('+')?;
@@ -252,6 +272,9 @@ fn longer(word: &str) -> Option<Word> {
 }
 
 fn write(word: &str) -> Option<Word> {
+    if let Some(text) = word.strip_prefix("l") {
+        return Some(Word::Left(target(text)?));
+    }
     if let Some(text) = word.strip_prefix("b") {
         return Some(Word::Write {
             left: target(text)?,

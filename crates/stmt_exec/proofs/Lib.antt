@@ -12,4 +12,3 @@ pub mod WalkLaws
 pub mod CombineLaws
 pub mod GuardLaws
 pub mod LayerLaws
-pub mod OneSignal

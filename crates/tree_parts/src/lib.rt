@@ -6,6 +6,3 @@ mod statements;
 
 pub use expressions::{operands, signal_of};
 pub use statements::{asked, children, heads};
-
-#[cfg(test)]
-mod tests;

@@ -9,6 +9,3 @@ mod unrolling;
 pub use frames::{FrameList, Unrolled};
 pub use setup::{Fixed, FixedBit, FixedBitList, FixedReset, StartState};
 pub use unrolling::unroll;
-
-#[cfg(test)]
-mod tests;

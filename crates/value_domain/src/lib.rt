@@ -12,6 +12,3 @@ pub use domain::Domain;
 pub use parts::{Word, concatenate, guarded, join, matched, narrowed, repeat};
 pub use plain::BitsDomain;
 pub use variable::{Start, place_at, select_at};
-
-#[cfg(test)]
-mod tests;

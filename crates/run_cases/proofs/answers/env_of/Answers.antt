@@ -1,6 +1,6 @@
 use Rattle.std.proofs.Common.{refl, rules, arith, sym, subst, ap, ◌∙◌, ◌≤◌, All, List, Bool, [], false, length, map}
 use Rattle.std.proofs.lemmas.Grind.{common_steps}
-use Rattle.run_cases.proofs.Bodies.{is_env, short_at, runnable}
+use Rattle.run_cases.proofs.RunLaws.{is_env, short_at, runnable}
 use Rattle.stmt_exec.specs.Runs.{IsRunnable}
 use Rattle.run_cases.proofs.answers.env_of.Goals as goal
 
