@@ -238,6 +238,12 @@ places_push old places xs m more same room h k d lt =
       ]
     ]
 
+pub places_pushed : (old places : List ℕ) (xs ys : List Mark) (m : Mark) (v n : ℕ) → v ≡ variable_of m.lit → n ≡ length xs → ys ≡ xs ++ m ∷ [] → length old ≤ length places → ((y : ℕ) → y < length old → get_or places y 0 ≡ get_or old y 0) → variable_of m.lit < length places → ArePlaces old xs → ArePlaces (set places v n) ys
+places_pushed old places xs ys m v n ve ne ye more same room h =
+    subst (ArePlaces (set places v n)) (sym ye)
+    (subst (λ (k : ℕ). ArePlaces (set places v k) (xs ++ m ∷ [])) (sym ne)
+    (subst (λ (x : ℕ). ArePlaces (set places x (length xs)) (xs ++ m ∷ [])) (sym ve) (places_push old places xs m more same room h)))
+
 pub places_more : (old places : List ℕ) (xs : List Mark) → length old ≤ length places → ((y : ℕ) → y < length old → get_or places y 0 ≡ get_or old y 0) → ArePlaces old xs → ArePlaces places xs
 places_more old places xs more same h k d lt =
     let x : ℕ = variable_of (get_or xs k d).lit in

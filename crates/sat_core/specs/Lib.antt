@@ -2,6 +2,7 @@ pub mod Arena
 pub mod Trail
 pub mod Rests
 pub mod Places
+pub mod Decisions
 pub mod Sync
 pub mod Round
 pub mod Solved

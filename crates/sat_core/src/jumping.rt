@@ -7,21 +7,21 @@ ghost use Rattle.sat_core.specs.Trail.{assigned, AreFresh};
 use crate::marks::Marks;
 use crate::trail::Trail;
 
-/// The place of the oldest decision above that of a variable, or of the oldest of all where it has none.
+/// The place of the oldest decision above that of a variable, or of the oldest of all where it has none. Only decisions are
+/// looked at, of which all above are undone.
 fn cut_place(marks: &Marks, second: u32) -> usize
     ensures within { result ≤ length marks.now }
     ensures jumped { reverse (take result marks.now) ≡ jumped second (reverse marks.now) (reverse marks.now) }
 {
     let mut cut = marks.len();
-    let mut place = marks.len();
-    while place > 0 {
-        place -= 1;
-        if marks.get(place).reason == 0 {
-            if marks.get(place).lit.variable() == second {
-                return cut;
-            }
-            cut = place;
+    let mut level = marks.levels();
+    while level > 0 {
+        level -= 1;
+        let place = marks.decision(level);
+        if marks.get(place).lit.variable() == second {
+            return cut;
         }
+        cut = place;
     }
     cut
 }

@@ -1,4 +1,5 @@
-ghost use Rattle.std.specs.Prelude.{◌≡◌, ℕ, ◌≤◌, ◌<◌, ◌++◌, ◌∷◌, [], length, slice_index_or, reverse, MatchOption, OnOk};
+ghost use Rattle.std.specs.Prelude.{◌≡◌, ℕ, ◌-◌, ◌≤◌, ◌<◌, ◌++◌, ◌∷◌, [], cond, eqb, length, slice_index_or, take, reverse, MatchOption, OnOk, OnErr};
+ghost use Rattle.sat_core.specs.Decisions.{decision_places};
 ghost use Rattle.sat_core.specs.Places.{HasMark, StandsAt};
 ghost use Rattle.sat_core.specs.Trail.{AreFresh};
 
@@ -7,23 +8,26 @@ use bits_core::NoMemory;
 use std::alloc::Global;
 use std::marker::Model;
 
-/// The literals made true, oldest first, with the place of the mark of each variable that has one. Contracts see the marks.
+/// The literals made true, oldest first, with the place of the mark of each variable that has one, and the places of the
+/// decisions. Contracts see the marks.
 #[derive(Drop)]
 pub struct Marks {
     list: Vec<Mark>,
     places: Vec<usize>,
+    decisions: Vec<usize>,
 }
 
 impl Model for Marks {
     ghost use Rattle.std.specs.Prelude.{List};
     ghost use Rattle.sat_core.specs.declared.trail.Mark.{Mark};
+    ghost use Rattle.sat_core.specs.Decisions.{AreDecisions};
     ghost use Rattle.sat_core.specs.Places.{ArePlaces};
 
     ghost Value = { List Mark };
 
     ghost view = { λ marks. marks.list.items };
 
-    ghost invariant = { λ marks. ArePlaces marks.places.items marks.list.items };
+    ghost invariant = { λ marks. ArePlaces marks.places.items marks.list.items × AreDecisions marks.decisions.items marks.list.items };
 }
 
 /// Makes room for so many places.
@@ -38,6 +42,26 @@ fn grow(places: &mut Vec<usize>, size: usize) -> Result<(), NoMemory>
     Ok(())
 }
 
+/// Puts the place of a mark at the end, where the mark is a decision.
+fn put_decision(decisions: &mut Vec<usize>, reason: usize, place: usize) -> Result<(), NoMemory>
+    ensures ok { OnOk result (decisions.new.items ≡ cond (eqb reason 0) (decisions.old.items ++ place ∷ []) decisions.old.items) }
+    ensures err { OnErr result (decisions.new.items ≡ decisions.old.items) }
+{
+    if reason == 0 {
+        decisions.push(place)?;
+    }
+    Ok(())
+}
+
+/// Takes the last place away, where the mark that stood there is a decision.
+fn take_decision(decisions: &mut Vec<usize>, reason: usize)
+    ensures { decisions.new.items ≡ cond (eqb reason 0) (take (length decisions.old.items - 1) decisions.old.items) decisions.old.items }
+{
+    if reason == 0 {
+        decisions.pop();
+    }
+}
+
 impl Marks {
     /// No marks. Takes no memory.
     pub fn new(alloc: Global) -> Marks
@@ -46,6 +70,7 @@ impl Marks {
         Marks {
             list: Vec::new(alloc),
             places: Vec::new(alloc),
+            decisions: Vec::new(alloc),
         }
     }
 
@@ -75,9 +100,14 @@ impl Marks {
         ensures { OnOk result (self.new ≡ self.old ++ mark ∷ []) }
     {
         let variable = mark.lit.variable() as usize;
-        grow(&mut self.places, variable + 1)?;
         let place = self.list.len();
-        self.list.push(mark)?;
+        let count = self.decisions.len();
+        grow(&mut self.places, variable + 1)?;
+        put_decision(&mut self.decisions, mark.reason, place)?;
+        if self.list.push(mark).is_err() {
+            self.decisions.truncate(count);
+            return Err(NoMemory);
+        }
         self.places[variable] = place;
         Ok(())
     }
@@ -87,6 +117,27 @@ impl Marks {
         requires { AreFresh (reverse self.old) }
         ensures { MatchOption result (length self.old ≡ 0) (λ mark. self.old ≡ self.new ++ mark ∷ []) }
     {
-        self.list.pop()
+        match self.list.pop() {
+            Some(mark) => {
+                take_decision(&mut self.decisions, mark.reason);
+                Some(mark)
+            }
+            None => None,
+        }
+    }
+
+    /// How many decisions there are.
+    pub fn levels(&self) -> usize
+        ensures { result ≡ length (decision_places (reverse self.now)) }
+    {
+        self.decisions.len()
+    }
+
+    /// Where a decision stands, by its number, the oldest being 0.
+    pub fn decision(&self, level: usize) -> usize
+        requires { level < length (decision_places (reverse self.now)) }
+        ensures { result ≡ slice_index_or (reverse (decision_places (reverse self.now))) level result }
+    {
+        self.decisions[level]
     }
 }

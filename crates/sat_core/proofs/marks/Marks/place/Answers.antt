@@ -9,7 +9,7 @@ pub index-requires : goal.index-requires
 index-requires c =
     let marks = c.self.inside.list.items in
     let h : HasMark marks c.args.variable = subst (λ (ms : List Mark). HasMark ms c.args.variable) (sym c.self.view_is) c.requires in
-    let lt : c.args.variable < length c.self.inside.places.items = (place_stands c.self.inside.places.items marks c.args.variable c.self.invariant h).0 in
+    let lt : c.args.variable < length c.self.inside.places.items = (place_stands c.self.inside.places.items marks c.args.variable c.self.invariant.0 h).0 in
     let n = c.self.inside.places.ok.0 in
     omega arith
 
@@ -19,6 +19,6 @@ returns c =
     let marks = c.self.inside.list.items in
     let x = c.args.variable in
     let h : HasMark marks x = subst (λ (ms : List Mark). HasMark ms x) (sym c.self.view_is) c.requires in
-    let p = place_stands places marks x c.self.invariant h in
+    let p = place_stands places marks x c.self.invariant.0 h in
     let e : c.index.result.now ≡ get_or places x 0 = get_or_read places x c.index.result.now p.0 c.index.ensures 0 in
     subst (λ (ms : List Mark). StandsAt ms c.index.result.now x) c.self.view_is (subst (λ (k : ℕ). StandsAt marks k x) (sym e) p.1)
