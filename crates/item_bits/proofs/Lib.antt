@@ -1,0 +1,5 @@
+pub mod RangeLaws
+pub mod SpanLaws
+pub mod ReadLaws
+pub mod AddLaws
+pub mod DriveLaws
