@@ -24,9 +24,9 @@ use Rattle.vl_size.specs.Constants.{next_value, behind_next}
 use Rattle.vl_size.specs.Owns.{own, own_picks, own_pick, owns, inputs_of}
 use Rattle.vl_size.specs.Sharing.{sharing, shared_by, largest, are_signed, IsShared}
 
-record Fits (s : Sizing) : Type 0 where
-  shared : IsShared s
-  short : length_of s ≤ 65536
+pub record Fits (s : Sizing) : Type 0 where
+  pub shared : IsShared s
+  pub short : length_of s ≤ 65536
 
 cut_short : (n : ℕ) → cut n ≤ 65536
 cut_short n = grind (arith, nat_tests)
@@ -160,7 +160,7 @@ picks_fit : (look : Look) (e : Option SizeEntry) (ps : Picks) (cs : List Const) 
 picks_fit look e whole cs = name_fits e
 picks_fit look e (pick p ps) cs = pick_fits look e p cs
 
-own_fits : (look : Look) (t : Term) (cs : List Const) → Fits (own look t cs).0
+pub own_fits : (look : Look) (t : Term) (cs : List Const) → Fits (own look t cs).0
 own_fits look (number text) cs = apart_fits _ _ refl (cut_short (number_size text).length)
 own_fits look (name x ps) cs = picks_fit look (look x) ps cs
 own_fits look (call x ts) cs = call_fits (look x) (owns look ts (inputs_of (look x)) cs).0

@@ -1,4 +1,8 @@
+pub mod Chains
 pub mod Constants
+pub mod Descents
+pub mod Faults
+pub mod Gaps
 pub mod Nodes
 pub mod Operators
 pub mod Owns

@@ -211,7 +211,7 @@ abbrev pub range_width : Option ℤ → Option ℤ → ℕ
 range_width (Some h) (Some l) = span h l
 range_width _ _ = 1
 
--- against the declared direction, or a bound that does not fit
+-- against the declared direction
 abbrev pub is_against : Option SizeEntry → ℤ → ℤ → Bool
 is_against None h l = false
 is_against (Some e) h l = if is_falling e then int_lt h l else int_lt l h

@@ -8,7 +8,7 @@ use Rattle.vl_size.specs.Terms.{Term, Terms, Pick, Picks, number, name, call, sy
 use Rattle.vl_size.specs.Terms as term
 use Rattle.vl_size.specs.declared.tree.Sizing.{Sizing}
 use Rattle.vl_size.specs.Sizings.{sizing_of, node_of, parts_of}
-use Rattle.vl_size.specs.Constants.{next_value, behind_next}
+use Rattle.vl_size.specs.Constants.{next_value, next_number, behind_next}
 use Rattle.vl_size.specs.Nodes.{number_node, name_node, call_node, system_node, concat_node, repeat_node, group_node, unary_node, binary_node, choice_node, index_node, range_node, part_node}
 
 -- what was found, and the values behind it
@@ -63,7 +63,7 @@ abbrev mutual
 
   pub own_pick : Look → Option SizeEntry → Pick → List Const → Found Sizing
   own_pick look e (index a) cs = on (index_node e) (own look a cs)
-  own_pick look e (range h l) cs = (range_node e (next_value cs) (next_value (behind_next cs)), behind_next (behind_next cs))
+  own_pick look e (range h l) cs = (range_node e (next_number cs) (next_number (behind_next cs)), behind_next (behind_next cs))
   own_pick look e (up a w) cs = and_then (part_node e) (own look a cs) (λ ds. (next_value ds, behind_next ds))
   own_pick look e (down a w) cs = and_then (part_node e) (own look a cs) (λ ds. (next_value ds, behind_next ds))
 

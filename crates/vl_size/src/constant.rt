@@ -29,7 +29,7 @@ fn with_bit(value: u64, flip: bool, bit: bool) -> u64
 }
 
 /// The number of the bits, each flipped where asked for, if it is below 2^63. Linear in the bits.
-fn flipped_number(bits: &Bits, flip: bool) -> Option<u64>
+pub fn flipped_number(bits: &Bits, flip: bool) -> Option<u64>
     ensures { MatchOption result (2 ^ 63 ≤ spec.flipped_number flip bits.now) (λ n. (n ≡ spec.flipped_number flip bits.now) × (n < 2 ^ 63)) }
 {
     let mut value: u64 = 0;
@@ -43,7 +43,7 @@ fn flipped_number(bits: &Bits, flip: bool) -> Option<u64>
 }
 
 /// Whether the number is below 0.
-fn is_negative(value: &Const) -> bool
+pub fn is_negative(value: &Const) -> bool
     ensures { result ≡ spec.is_negative value.now }
 {
     value.signed && value.bits.get(value.bits.len() - 1)

@@ -1,7 +1,9 @@
 //! Lengths and signs of expressions (IEEE 1364-2005, 5.4 and 5.5).
 #![tactic(auto, using(crate::proofs::Rules::nodes))]
 
+mod chain;
 mod constant;
+mod gap;
 mod laws;
 mod nodes;
 mod numbers;
@@ -12,8 +14,9 @@ mod sizes;
 mod table;
 mod tree;
 
+pub use chain::{Chain, Link, chain_of};
 pub use constant::{Const, CountList, behind_next, next_value, whole};
-pub use laws::operands_share;
+pub use laws::{faults_are_lowest, operands_share};
 pub use nodes::{concat_node, is_falling, total, width_of};
 pub use numbers::{capped, number_size};
 pub use operators::{

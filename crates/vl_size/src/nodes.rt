@@ -1,9 +1,12 @@
 ghost use Rattle.std.specs.Prelude.{◌≡◌, ◌∷◌, [], ◌≤◌, ◌*◌, max, IfOk, map};
 ghost use Rattle.vl_size.specs.Texts.{capped as capped_of};
 ghost use Rattle.std.specs.Option.{option_copied};
+ghost use Rattle.vl_size.specs.Constants.{number_of, next_number, behind_next};
 ghost use Rattle.vl_size.specs.Nodes as spec;
 ghost use Rattle.vl_size.specs.Sizings.{sizing_of, faults_of as lowest_of, are_constant as all_constant, is_some_empty as any_empty};
 
+use crate::constant::Const;
+use crate::gap::measure;
 use crate::numbers::{capped, number_size};
 use crate::operators::{BinaryOperator, SystemFunction, UnaryOperator};
 use crate::table::{NameKind, SizeEntry};
@@ -349,10 +352,7 @@ pub fn repeat_node(count: Option<i64>, parts: Items<Sizing>) -> Sizing
         constant: copies.node.constant || is_no_copy(count),
         ..copies.node
     };
-    Sizing {
-        node,
-        parts: copies.parts,
-    }
+    copies.with_node(node)
 }
 
 fn is_kind(kind: NameKind, other: NameKind) -> bool
@@ -494,64 +494,39 @@ pub fn part_node(
     Ok(select_node(entry, width_of(width), is_bad_width(width), parts))
 }
 
-fn range_width(high: Option<i64>, low: Option<i64>) -> u32
-    ensures { result ≡ spec.range_width high low }
+fn span(high: &Const, low: &Const) -> u32
+    ensures { result ≡ spec.span (number_of high.now) (number_of low.now) }
 {
-    match (high, low) {
-        (Some(high), Some(low)) => span(Bounds { high, low }),
-        _ => 1,
-    }
+    let gap = measure(high, low);
+    capped(u64::from(longer(gap.above, gap.below)) + 1)
 }
 
-#[derive(Clone, Copy)]
-struct Bounds {
-    high: i64,
-    low: i64,
-}
-
-fn span(bounds: Bounds) -> u32
-    ensures { result ≡ spec.span bounds.high bounds.low }
-{
-    let gap = bounds.high.abs_diff(bounds.low);
-    if gap > 65_536 {
-        return 65_537;
-    }
-    capped(gap + 1)
-}
-
-fn is_bad_range(entry: Option<&SizeEntry>, high: Option<i64>, low: Option<i64>) -> bool
-    ensures { result ≡ spec.is_bad_range (option_copied entry.entry) high low }
-{
-    match (high, low) {
-        (Some(high), Some(low)) => is_against(entry, Bounds { high, low }),
-        _ => true,
-    }
-}
-
-fn is_against(entry: Option<&SizeEntry>, bounds: Bounds) -> bool
-    ensures { result ≡ spec.is_against (option_copied entry.entry) bounds.high bounds.low }
+fn is_against(entry: Option<&SizeEntry>, high: &Const, low: &Const) -> bool
+    ensures { result ≡ spec.is_against (option_copied entry.entry) (number_of high.now) (number_of low.now) }
 {
     match entry {
         None => false,
         Some(entry) => {
+            let gap = measure(high, low);
             if is_falling(entry) {
-                bounds.high < bounds.low
+                gap.below > 0
             } else {
-                bounds.low < bounds.high
+                gap.above > 0
             }
         }
     }
 }
 
-/// A select from one bound to another.
-pub fn range_node(
-    alloc: Global,
-    entry: Option<&SizeEntry>,
-    high: Option<i64>,
-    low: Option<i64>,
-) -> Sizing
-    ensures { result ≡ spec.range_node (option_copied entry.entry) high low }
+/// A select from one bound to another, the first two of the values.
+pub fn range_node(alloc: Global, entry: Option<&SizeEntry>, values: &[Const]) -> Sizing
+    ensures { result ≡ spec.range_node (option_copied entry.entry) (next_number values.now) (next_number (behind_next values.now)) }
 {
-    let bad = is_bad_range(entry, high, low);
-    select_node(entry, range_width(high, low), bad, Items::new(alloc))
+    let parts = Items::new(alloc);
+    match values {
+        [high, low, ..] => {
+            let against = is_against(entry, high, low);
+            select_node(entry, span(high, low), against, parts)
+        }
+        _ => select_node(entry, 1, true, parts),
+    }
 }

@@ -1,14 +1,16 @@
 ghost use Rattle.std.specs.Prelude.{◌≡◌, [], IfOk, map, Ok};
 ghost use Rattle.std.specs.Option.{option_copied};
+ghost use Rattle.vl_size.specs.Chains.{IsNoBinary};
 ghost use Rattle.vl_size.specs.Owns as spec;
 ghost use Rattle.vl_size.specs.Terms.{term, pick_term, terms, picks};
 
+use crate::chain::{Chain, chain_of};
 use crate::constant::{Const, behind_next, next_value};
 use crate::nodes::{
     binary_node, call_node, choice_node, concat_node, group_node, index_node, name_node,
     number_node, part_node, range_node, repeat_node, system_node, unary_node,
 };
-use crate::operators::{binary_operator, system_function, unary_operator};
+use crate::operators::{system_function, unary_operator};
 use crate::table::{SizeEntry, Sizes};
 use crate::tree::{Node, Sizing};
 use bits_core::{Items, NoMemory};
@@ -49,13 +51,11 @@ pub fn at_least(least: u32, part: Sizing) -> Sizing
     ensures { result ≡ spec.at_least least part }
 {
     let node = Node { least, ..part.node };
-    Sizing {
-        node,
-        parts: part.parts,
-    }
+    part.with_node(node)
 }
 
-/// An expression before it has a context, and the values that it has not used. Linear in the tree, but for look-ups.
+/// An expression before it has a context, and the values that it has not used. Linear in the tree, but for look-ups; the operators of a chain from the left
+/// take no stack.
 #[cycle(own)]
 pub fn own<'c, S: Sizes>(
     alloc: Global,
@@ -63,6 +63,30 @@ pub fn own<'c, S: Sizes>(
     expr: &Expr,
     values: &'c [Const],
 ) -> Found<'c, Sizing>
+    ensures { IfOk result (λ r. (r.0, r.1.now) ≡ spec.own (S.look names.now) (term expr.now) values.now) }
+{
+    let Chain { first, mut links } = chain_of(alloc, expr)?;
+    if links.len() == 0 {
+        return own_operand(alloc, names, expr, values);
+    }
+    let (mut all, mut rest) = own_operand(alloc, names, first, values)?;
+    while let Some(link) = links.pop() {
+        let (right, behind) = own(alloc, names, link.right, rest)?;
+        all = binary_node(alloc, link.op, all, right)?;
+        rest = behind;
+    }
+    Ok((all, rest))
+}
+
+/// An expression that is no operator between operands.
+#[cycle(own)]
+fn own_operand<'c, S: Sizes>(
+    alloc: Global,
+    names: &S,
+    expr: &Expr,
+    values: &'c [Const],
+) -> Found<'c, Sizing>
+    requires { IsNoBinary expr.now }
     ensures { IfOk result (λ r. (r.0, r.1.now) ≡ spec.own (S.look names.now) (term expr.now) values.now) }
 {
     match expr {
@@ -97,11 +121,7 @@ pub fn own<'c, S: Sizes>(
             let (a, rest) = own(alloc, names, operand.get(), values)?;
             Ok((unary_node(alloc, unary_operator(op), a)?, rest))
         }
-        Expr::Binary { op, left, right } => {
-            let (a, rest) = own(alloc, names, left.get(), values)?;
-            let (b, rest) = own(alloc, names, right.get(), rest)?;
-            Ok((binary_node(alloc, binary_operator(op), a, b)?, rest))
-        }
+        Expr::Binary { .. } => unreachable!(),
         Expr::Choice { test, yes, no } => {
             let (test, rest) = own(alloc, names, test.get(), values)?;
             let (yes, rest) = own(alloc, names, yes.get(), rest)?;
@@ -144,10 +164,8 @@ fn own_pick<'c, S: Sizes>(
             Ok((index_node(alloc, entry, a)?, rest))
         }
         Select::Range(_, _) => {
-            let high = next_value(values);
-            let rest = behind_next(values);
-            let low = next_value(rest);
-            Ok((range_node(alloc, entry, high, low), behind_next(rest)))
+            let rest = behind_next(behind_next(values));
+            Ok((range_node(alloc, entry, values), rest))
         }
         Select::Up(index, _) | Select::Down(index, _) => {
             let (a, rest) = own(alloc, names, index, values)?;

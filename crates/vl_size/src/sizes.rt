@@ -1,4 +1,6 @@
-ghost use Rattle.std.specs.Prelude.{◌≡◌, []};
+ghost use Rattle.std.specs.Prelude.{◌≡◌, ◌≤◌, [], IfSome};
+ghost use denote.Param.Weighed.{most};
+ghost use Rattle.vl_size.specs.declared.sizes.SizedExpr.{size-SizedExpr};
 ghost use Rattle.vl_tree.specs.Outcomes.{GivesAt};
 ghost use Rattle.vl_size.specs.Placed as spec;
 ghost use Rattle.vl_size.specs.Terms.{term};
@@ -15,11 +17,42 @@ use vl_tree::{Code, Expr, Fault, Place, Stop, lower, where_true};
 
 /// An expression with the length in bits and the sign that each part has in its context. Its parts are its operands from the left, an index and an
 /// argument among them; what a `CountList` holds is no part.
-#[derive(Drop)]
 pub struct SizedExpr {
     pub length: u32,
     pub signed: bool,
     pub parts: Items<SizedExpr>,
+}
+
+impl Drop for SizedExpr {
+    /// Lets go of a chain of first parts by a loop, so that its length takes no stack.
+    #[cycle(sized)]
+    fn drop(mut self) {
+        loop {
+            let SizedExpr {
+                length: _,
+                signed: _,
+                parts,
+            } = self;
+            match first_of(parts) {
+                None => return,
+                Some(first) => self = first,
+            }
+        }
+    }
+}
+
+/// The first part alone; the others are let go of.
+#[cycle(sized)]
+fn first_of(parts: Items<SizedExpr>) -> Option<SizedExpr>
+    ensures { IfSome result (λ first. size-SizedExpr first ≤ most size-SizedExpr parts) }
+{
+    let mut list = parts.into_vec();
+    let mut first = None;
+    while let Some(part) = list.pop() {
+        first = Some(part);
+    }
+    list.destroy_empty();
+    first
 }
 
 /// A list of sized expressions.

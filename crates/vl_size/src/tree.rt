@@ -1,3 +1,8 @@
+ghost use Rattle.std.specs.Prelude.{◌≡◌, ◌≤◌, IfSome};
+ghost use Rattle.vl_size.specs.Sizings.{sizing_of, parts_of};
+ghost use Rattle.vl_size.specs.declared.tree.Sizing.{size-Sizing};
+ghost use denote.Param.Weighed.{most};
+
 use bits_core::Items;
 use vl_tree::Code;
 
@@ -50,8 +55,45 @@ pub struct Node {
 }
 
 /// An expression before it has a context, with its parts: the inner expressions in source order, but for counts, bounds and widths.
-#[derive(Drop)]
 pub struct Sizing {
     pub node: Node,
     pub parts: Items<Sizing>,
+}
+
+impl Sizing {
+    /// The same parts, with this known of the expression.
+    pub fn with_node(self, node: Node) -> Sizing
+        ensures { result ≡ sizing_of node (parts_of self) }
+    {
+        let Sizing { node: _, parts } = self;
+        Sizing { node, parts }
+    }
+}
+
+impl Drop for Sizing {
+    /// Lets go of a chain of first parts by a loop, so that its length takes no stack.
+    #[cycle(sizing)]
+    fn drop(mut self) {
+        loop {
+            let Sizing { node: _, parts } = self;
+            match first_of(parts) {
+                None => return,
+                Some(first) => self = first,
+            }
+        }
+    }
+}
+
+/// The first part alone; the others are let go of.
+#[cycle(sizing)]
+fn first_of(parts: Items<Sizing>) -> Option<Sizing>
+    ensures { IfSome result (λ first. size-Sizing first ≤ most size-Sizing parts) }
+{
+    let mut list = parts.into_vec();
+    let mut first = None;
+    while let Some(part) = list.pop() {
+        first = Some(part);
+    }
+    list.destroy_empty();
+    first
 }
