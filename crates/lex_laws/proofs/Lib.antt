@@ -1,3 +1,4 @@
 pub mod Dropped
 pub mod Outcomes
 pub mod Picked
+pub mod Read

@@ -1,4 +1,4 @@
-//! Laws of the lexer's definitions in the words of the language: attributes, the branches of conditionals, and the expansion of macros (IEEE 1364-2005, sections 3.8 and 19).
+//! Laws of the lexer's definitions in the words of the language: numbers, attributes, the branches of conditionals, and the expansion of macros (IEEE 1364-2005, sections 3.5, 3.8 and 19).
 //! Each is the contract of a function with an empty body.
 #![tactic(auto)]
 
@@ -13,6 +13,8 @@ ghost use Rattle.vl_lex.specs.Macros.{Table};
 ghost use Rattle.vl_lex.specs.Bytes.{Text};
 ghost use Rattle.vl_lex.specs.Expansion.{Covers, Expands};
 ghost use Rattle.lex_laws.specs.Attributes.{Leaves, all_fed, kept_so_far};
+ghost use Rattle.vl_lex.specs.Forms.{IsBasedNumber, is_decimal_number};
+ghost use Rattle.lex_laws.specs.Parts.{IsDecimal, IsRead};
 ghost use Rattle.lex_laws.specs.Branches.{IsHead, is_true, Nested, Further, Picks, Picked, kept_text, true_branch};
 
 /// An attribute is dropped up to the first `*` with `)` behind it, and stays where none follows: of any tokens there is what is left without their attributes (`some`),
@@ -43,4 +45,11 @@ pub fn first_true_branch_is_kept()
     ensures some { (table : Table) (cond : Bool) (text further rest : List Placed) → Nested text further → Further true further rest → Picked table cond text rest }
     ensures dropped { (levels : ℕ) (files : List File) (inner : ℕ → SState → Reached SState) (end : Halt) (branches : SBranches) (state : SState) (text rest : List Placed)
         → branches.active ≡ false → Nested text rest → walked levels files inner end 0 branches state text ≡ walked levels files inner end 0 branches state rest }
+{}
+
+/// The size, the sign, the base, the digits and the value that are read of a number are those of the parts of its form.
+#[tactic(auto, using(crate::proofs::Read::decimal_is_read))]
+pub fn numbers_are_read_by_form()
+    ensures based { (text : Text) (form : IsBasedNumber text) → IsRead text form }
+    ensures decimal { (text : Text) → is_decimal_number text ≡ true → IsDecimal text }
 {}
