@@ -3,12 +3,13 @@
 
 Usage: bench/solve.py PROGRAM [cases FILE]     (PROGRAM is crates/solve_cases as `rt run` builds it)
 
-Prints a line for each formula: its variables and clauses, the answer, the seconds less those of a run that reads the same text and solves nothing, the
+Prints a line for each formula: its variables and clauses, the answer, the processor seconds less those of a run that reads the same text and solves nothing, the
 formula's memory (the greatest of a run that builds it, less that of one that reads the text alone), the solver's memory (at most: what is left of the
 program's greatest without the text and the formula), and where minisat is installed its seconds and its propagations a second on the same formula, which
 it is told not to simplify before. With `cases` it writes random small gate formulas to a file instead, a line for each, for two builds of PROGRAM to be
 compared on. The formulas are the same at each run.
 """
+import os
 import random
 import re
 import shutil
@@ -127,14 +128,15 @@ def line(gates, goal, budget):
 
 
 def run(program, text):
-    """The first word of the answer, the seconds and the kilobytes."""
-    with tempfile.TemporaryFile("w+") as given:
+    """The first word of the answer, the processor seconds and the kilobytes."""
+    with tempfile.TemporaryFile("w+") as given, tempfile.TemporaryFile("w+") as taken, tempfile.TemporaryFile("w+") as told:
         given.write(text)
         given.seek(0)
-        start = time.perf_counter()
-        child = subprocess.Popen(["/usr/bin/time", "-f", "%M", program], stdin=given, stdout=subprocess.PIPE, stderr=subprocess.PIPE, text=True)
-        out, errors = child.communicate()
-        return out.split(" ")[0].strip(), time.perf_counter() - start, int(errors.split()[-1])
+        child = subprocess.Popen(["/usr/bin/time", "-f", "%M", program], stdin=given, stdout=taken, stderr=told)
+        _, _, used = os.wait4(child.pid, 0)
+        taken.seek(0)
+        told.seek(0)
+        return taken.read(100).split(" ")[0].strip(), used.ru_utime + used.ru_stime, int(told.read().split()[-1])
 
 
 def minisat(gates, goal):
