@@ -16,6 +16,3 @@ pub use commands::wrong_word;
 pub use laws::replies_are_one;
 pub use status::Status;
 pub use top::run;
-
-#[cfg(test)]
-mod tests;

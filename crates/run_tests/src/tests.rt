@@ -1,5 +1,5 @@
-use crate::{Status, run};
 use bits_core::{File, FileList, Items, NoMemory};
+use conncheck::{Status, run};
 use shelf_io::{MemShelf, MemSink};
 use std::alloc::{AllocError, Global};
 use std::test::Fail;
