@@ -1,5 +1,6 @@
 use crate::shapes::show;
 use crate::words::tokens_of;
+use case_lines::Cases;
 use std::alloc::{AllocError, Global};
 use std::mem;
 use vl_expr::{ReadError, parse_expr, read_expr, read_list, read_select};
@@ -120,17 +121,22 @@ fn has_place(call: &str) -> bool {
     call == "parse" || call == "end"
 }
 
-/// The answer to a line, with its newline.
-pub fn answer(alloc: Global, line: &str) -> Result<Vec<u8>, AllocError> {
-    let mut fields = line.split('\t');
-    let call = fields.next().unwrap_or("");
-    let at = if has_place(call) {
-        fields.next().unwrap_or("").parse::<usize>().unwrap_or(0)
-    } else {
-        0
-    };
-    let mut out = Vec::new(alloc);
-    put_answer(alloc, &mut out, call, at, fields.next().unwrap_or(""))?;
-    out.push(b'\n')?;
-    Ok(out)
+/// Lines with the word of a call, each a case by itself.
+#[derive(Drop)]
+pub struct Expressions;
+
+impl Cases for Expressions {
+    /// The answer of the call that a line names.
+    fn answer(&mut self, alloc: Global, line: &str) -> Result<Option<Vec<u8>>, AllocError> {
+        let mut fields = line.split('\t');
+        let call = fields.next().unwrap_or("");
+        let at = if has_place(call) {
+            fields.next().unwrap_or("").parse::<usize>().unwrap_or(0)
+        } else {
+            0
+        };
+        let mut out = Vec::new(alloc);
+        put_answer(alloc, &mut out, call, at, fields.next().unwrap_or(""))?;
+        Ok(Some(out))
+    }
 }

@@ -16,15 +16,11 @@ mod answers;
 mod shapes;
 mod words;
 
-use answers::answer;
-use std::io::{self, BufRead, BufReader, Write};
+use answers::Expressions;
+use case_lines::answer_lines;
+use std::io;
 
 fn main(rt: HostRuntime) -> io::Result<()> {
-    let alloc = rt.alloc();
     let mut writer = io::writer(&rt);
-    for line in BufReader::new(alloc, rt.reader())?.lines(alloc) {
-        let answer = answer(alloc, line?.as_str())?;
-        writer.write_all(answer.as_slice())?;
-    }
-    Ok(())
+    answer_lines(rt.alloc(), rt.reader(), &mut Expressions, &mut writer)
 }
