@@ -7,17 +7,16 @@
 mod answers;
 mod names;
 
-use answers::answer;
+use answers::SizeCases;
+use case_lines::answer_lines;
 use names::table;
-use std::io::{self, BufRead, BufReader, Write};
+use std::io;
 
 fn main(rt: HostRuntime) -> io::Result<()> {
     let alloc = rt.alloc();
     let mut writer = io::writer(&rt);
-    let names = table(alloc)?;
-    for line in BufReader::new(alloc, rt.reader())?.lines(alloc) {
-        let answer = answer(alloc, &names, line?.as_str())?;
-        writer.write_all(answer.as_slice())?;
-    }
-    Ok(())
+    let mut cases = SizeCases {
+        names: table(alloc)?,
+    };
+    answer_lines(alloc, rt.reader(), &mut cases, &mut writer)
 }

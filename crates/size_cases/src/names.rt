@@ -1,83 +1,30 @@
-use bits_core::{Items, Name};
+use bits_core::Items;
+use expr_case_lines::{Shape, WIRE, put_name, size_entry, vector};
 use std::alloc::{AllocError, Global};
-use vl_size::{LengthList, NameKind, SizeEntry, SizeEntryList, SizeTable};
-
-// A name of so many bits; a range falls from the first bound to 0, or rises from 0 where `rising`.
-#[derive(Clone, Copy)]
-struct Shape {
-    kind: NameKind,
-    length: u32,
-    signed: bool,
-    ranged: bool,
-    rising: bool,
-}
-
-const WIRE: Shape = Shape {
-    kind: NameKind::Signal,
-    length: 1,
-    signed: false,
-    ranged: false,
-    rising: false,
-};
-
-fn vector(length: u32) -> Shape {
-    Shape {
-        length,
-        ranged: true,
-        ..WIRE
-    }
-}
-
-fn entry(
-    alloc: Global,
-    name: &[u8],
-    shape: Shape,
-    inputs: LengthList,
-) -> Result<SizeEntry, AllocError> {
-    let last = i64::from(shape.length) - 1;
-    Ok(SizeEntry {
-        name: Name::of(Vec::from_slice(alloc, name)?),
-        kind: shape.kind,
-        length: shape.length,
-        signed: shape.signed,
-        ranged: shape.ranged,
-        high: if shape.rising { 0 } else { last },
-        low: if shape.rising { last } else { 0 },
-        inputs,
-    })
-}
-
-fn put(
-    alloc: Global,
-    all: &mut Vec<SizeEntry>,
-    name: &[u8],
-    shape: Shape,
-) -> Result<(), AllocError> {
-    all.push(entry(alloc, name, shape, Items::new(alloc))?)?;
-    Ok(())
-}
+use vl_size::{LengthList, NameKind, SizeEntryList, SizeTable};
 
 /// The names of the cases: wires `a`, `b`; vectors `v`, `w`, `x`, `y` of 8, 16, 128 and 129 bits, `r` that rises; signed `s`, `n` of 8 and 4
 /// bits; an `i` of 32 bits, signed; constants `P` and `Q` of 4 and 200 bits; functions `f` of inputs of 8 and 16 bits, and `g` of none.
 pub fn table(alloc: Global) -> Result<SizeTable, AllocError> {
     let mut all = Vec::new(alloc);
-    put(alloc, &mut all, b"a", WIRE)?;
-    put(alloc, &mut all, b"b", WIRE)?;
-    put(alloc, &mut all, b"v", vector(8))?;
-    put(alloc, &mut all, b"w", vector(16))?;
-    put(alloc, &mut all, b"x", vector(128))?;
-    put(alloc, &mut all, b"y", vector(129))?;
-    put(alloc, &mut all, b"z", vector(40_000))?;
-    put(
+    put_name(alloc, &mut all, b"a", WIRE)?;
+    put_name(alloc, &mut all, b"b", WIRE)?;
+    put_name(alloc, &mut all, b"v", vector(8))?;
+    put_name(alloc, &mut all, b"w", vector(16))?;
+    put_name(alloc, &mut all, b"x", vector(128))?;
+    put_name(alloc, &mut all, b"y", vector(129))?;
+    put_name(alloc, &mut all, b"z", vector(40_000))?;
+    put_name(
         alloc,
         &mut all,
         b"r",
         Shape {
-            rising: true,
+            high: 0,
+            low: 7,
             ..vector(8)
         },
     )?;
-    put(
+    put_name(
         alloc,
         &mut all,
         b"s",
@@ -86,7 +33,7 @@ pub fn table(alloc: Global) -> Result<SizeTable, AllocError> {
             ..vector(8)
         },
     )?;
-    put(
+    put_name(
         alloc,
         &mut all,
         b"n",
@@ -95,7 +42,7 @@ pub fn table(alloc: Global) -> Result<SizeTable, AllocError> {
             ..vector(4)
         },
     )?;
-    put(
+    put_name(
         alloc,
         &mut all,
         b"i",
@@ -104,7 +51,7 @@ pub fn table(alloc: Global) -> Result<SizeTable, AllocError> {
             ..vector(32)
         },
     )?;
-    put(
+    put_name(
         alloc,
         &mut all,
         b"P",
@@ -114,7 +61,7 @@ pub fn table(alloc: Global) -> Result<SizeTable, AllocError> {
             ..WIRE
         },
     )?;
-    put(
+    put_name(
         alloc,
         &mut all,
         b"Q",
@@ -131,8 +78,8 @@ pub fn table(alloc: Global) -> Result<SizeTable, AllocError> {
     let mut inputs = Vec::new(alloc);
     inputs.push(8)?;
     inputs.push(16)?;
-    all.push(entry(alloc, b"f", function, LengthList::of(inputs))?)?;
-    all.push(entry(
+    all.push(size_entry(alloc, b"f", function, LengthList::of(inputs))?)?;
+    all.push(size_entry(
         alloc,
         b"g",
         Shape {

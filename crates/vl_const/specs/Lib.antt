@@ -2,6 +2,7 @@ pub mod Answers
 pub mod Counted
 pub mod Laws
 pub mod Numbers
+pub mod Operations
 pub mod Operators
 pub mod Outcomes
 pub mod Places

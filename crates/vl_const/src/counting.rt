@@ -1,4 +1,5 @@
 ghost use Rattle.std.specs.Prelude.{◌≡◌, ◌∷◌, [], IfOk, map};
+ghost use Rattle.vl_size.specs.Chains.{IsNoBinary};
 ghost use Rattle.vl_size.specs.Placed.{is_bad_whole as is_bad, widened as widened_to};
 ghost use Rattle.vl_size.specs.Terms.{term, pick_term, terms, picks};
 ghost use Rattle.vl_const.specs.Counted as spec;
@@ -11,7 +12,7 @@ use crate::worth::worth;
 use bits_core::{Bits, Items, NoMemory};
 use std::alloc::Global;
 use vl_size::own::own;
-use vl_size::{Const, Size, Sizing};
+use vl_size::{Chain, Const, Size, Sizing, chain_of};
 use vl_tree::{Code, Expr, Select, lower, where_true};
 
 /// The values of counts, bounds and widths, and beside them the lowest codes of their expressions.
@@ -159,7 +160,7 @@ pub fn judge<S: Constants>(
 }
 
 /// The values of an expression's counts, bounds and widths, behind others. An expression inside one of these has a list of its own, so each node is
-/// visited a fixed number of times.
+/// visited a fixed number of times. The operators of a chain from the left take no stack.
 #[cycle(counts)]
 pub fn counts_behind<S: Constants>(
     alloc: Global,
@@ -167,6 +168,28 @@ pub fn counts_behind<S: Constants>(
     expr: &Expr,
     found: Counted,
 ) -> Result<Counted, NoMemory>
+    ensures { IfOk result (λ r. r ≡ spec.counts (S.meaning scope.now) (term expr.now) found) }
+{
+    let Chain { first, mut links } = chain_of(alloc, expr)?;
+    if links.len() == 0 {
+        return counts_operand(alloc, scope, expr, found);
+    }
+    let mut all = counts_operand(alloc, scope, first, found)?;
+    while let Some(link) = links.pop() {
+        all = counts_behind(alloc, scope, link.right, all)?;
+    }
+    Ok(all)
+}
+
+/// Those of an expression that is no operator between operands.
+#[cycle(counts)]
+fn counts_operand<S: Constants>(
+    alloc: Global,
+    scope: &S,
+    expr: &Expr,
+    found: Counted,
+) -> Result<Counted, NoMemory>
+    requires { IsNoBinary expr.now }
     ensures { IfOk result (λ r. r ≡ spec.counts (S.meaning scope.now) (term expr.now) found) }
 {
     match expr {
@@ -182,10 +205,7 @@ pub fn counts_behind<S: Constants>(
         }
         Expr::Group(inner) => counts_behind(alloc, scope, inner.get(), found),
         Expr::Unary { operand, .. } => counts_behind(alloc, scope, operand.get(), found),
-        Expr::Binary { left, right, .. } => {
-            let found = counts_behind(alloc, scope, left.get(), found)?;
-            counts_behind(alloc, scope, right.get(), found)
-        }
+        Expr::Binary { .. } => unreachable!(),
         Expr::Choice { test, yes, no } => {
             let found = counts_behind(alloc, scope, test.get(), found)?;
             let found = counts_behind(alloc, scope, yes.get(), found)?;

@@ -6,6 +6,7 @@ pub mod counting;
 mod laws;
 mod made;
 mod numbers;
+mod operations;
 mod operators;
 pub mod places;
 mod scope;

@@ -1,5 +1,7 @@
 ghost use Rattle.std.specs.Prelude.{◌≡◌, IfOk, map, Ok};
 ghost use Rattle.vl_size.specs.Terms.{term, pick_term, terms, picks};
+ghost use Rattle.vl_size.specs.Chains.{IsNoBinary};
+ghost use Rattle.vl_const.specs.Operations.{combined as combined_by};
 ghost use Rattle.vl_const.specs.Worths as spec;
 ghost use Rattle.vl_const.specs.Answers.{nothing as nothing_joined};
 
@@ -9,6 +11,7 @@ use crate::made::{
     repeat_made, select_made, system_made, unary_made,
 };
 use crate::numbers::number_value;
+use crate::operations::{Operation, Operations, operations_of};
 use crate::operators::{unary_of, work_of};
 use crate::places::Way;
 use crate::scope::Constants;
@@ -17,10 +20,7 @@ use crate::values::{Values, fault_at, number_at, rest_of};
 use bits_core::NoMemory;
 use std::alloc::Global;
 use vl_size::placed::{common, is_wide};
-use vl_size::{
-    Const, Operands, Size, Sizing, binary_operator, system_function, unary_operator, whole,
-    width_of,
-};
+use vl_size::{Const, Operands, Size, Sizing, system_function, unary_operator, whole, width_of};
 use vl_tree::{Expr, Select, lower, token_name};
 
 pub type Found<'c, T> = Result<(T, Values<'c>), NoMemory>;
@@ -69,7 +69,22 @@ fn placed_at(way: Way, signed: bool, a: Answer) -> Place
     }
 }
 
-/// An expression in a context, and the values that it has not used. Linear in the tree, but for look-ups.
+/// An operator's answer by those of its operands.
+fn combined(alloc: Global, step: Operation, a: Answer, b: Answer) -> Result<Answer, NoMemory>
+    ensures { IfOk result (λ r. r ≡ combined_by step.entry a b) }
+{
+    let second = behind(inside(step.sizings));
+    let around = Around {
+        context: step.context,
+        signed: working_sign(step.sizings, step.context),
+        wide: wide_here(step.sizings, step.context),
+        fault: first_node(second).fault,
+        second: own_context(second).signed,
+    };
+    binary_made(alloc, work_of(step.op), around, a, b)
+}
+
+/// An expression in a context, and the values that it has not used. Linear in the tree, but for look-ups; the operators of a chain from the left take no stack.
 #[cycle(worth)]
 pub fn worth<'c, S: Constants>(
     alloc: Global,
@@ -79,6 +94,39 @@ pub fn worth<'c, S: Constants>(
     context: Size,
     values: Values<'c>,
 ) -> Found<'c, Answer>
+    ensures { IfOk result (λ r. (r.0, (r.1.0.now, r.1.1.now)) ≡ spec.worth (S.meaning scope.now) (term expr.now) sizings.now context (values.entry.0.now, values.entry.1.now)) }
+{
+    let Operations {
+        first,
+        sizings: inner,
+        context: outer,
+        mut steps,
+    } = operations_of(alloc, expr, sizings, context)?;
+    if steps.len() == 0 {
+        return worth_operand(alloc, scope, expr, sizings, context, values);
+    }
+    let (mut all, mut rest) = worth_operand(alloc, scope, first, inner, outer, values)?;
+    while let Some(step) = steps.pop() {
+        let second = behind(inside(step.sizings));
+        let outer = part_context(step.sizings, step.context, false, second);
+        let (right, left) = worth(alloc, scope, step.right, second, outer, rest)?;
+        all = combined(alloc, step, all, right)?;
+        rest = left;
+    }
+    Ok((all, rest))
+}
+
+/// An expression that is no operator between operands.
+#[cycle(worth)]
+fn worth_operand<'c, S: Constants>(
+    alloc: Global,
+    scope: &S,
+    expr: &Expr,
+    sizings: &[Sizing],
+    context: Size,
+    values: Values<'c>,
+) -> Found<'c, Answer>
+    requires { IsNoBinary expr.now }
     ensures { IfOk result (λ r. (r.0, (r.1.0.now, r.1.1.now)) ≡ spec.worth (S.meaning scope.now) (term expr.now) sizings.now context (values.entry.0.now, values.entry.1.now)) }
 {
     match expr {
@@ -143,23 +191,7 @@ pub fn worth<'c, S: Constants>(
             let op = unary_of(unary_operator(op));
             Ok((unary_made(alloc, op, wide, context, a)?, rest))
         }
-        Expr::Binary { op, left, right } => {
-            let first = inside(sizings);
-            let outer = part_context(sizings, context, true, first);
-            let (a, rest) = worth(alloc, scope, left.get(), first, outer, values)?;
-            let second = behind(first);
-            let outer = part_context(sizings, context, false, second);
-            let (b, rest) = worth(alloc, scope, right.get(), second, outer, rest)?;
-            let around = Around {
-                context,
-                signed: working_sign(sizings, context),
-                wide: wide_here(sizings, context),
-                fault: first_node(second).fault,
-                second: own_context(second).signed,
-            };
-            let op = work_of(binary_operator(op));
-            Ok((binary_made(alloc, op, around, a, b)?, rest))
-        }
+        Expr::Binary { .. } => unreachable!(),
         Expr::Choice { test, yes, no } => {
             let first = inside(sizings);
             let outer = part_context(sizings, context, true, first);
