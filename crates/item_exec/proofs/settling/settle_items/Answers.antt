@@ -1,0 +1,46 @@
+use Rattle.std.proofs.Common.{◌∙◌, subst, map, get_or, arith, sym}
+use Rattle.std.proofs.lemmas.List.{length-map, take_all}
+use Rattle.stmt_exec.specs.State.{assignment}
+use Rattle.value_domain.proofs.KeepLaws.{keeps_trans}
+use Rattle.design_core.specs.Numbers.{chosen_cells, idle}
+use Rattle.item_exec.specs.Passes.{Fits, IsGiven, IsSettled, cell_in}
+use Rattle.item_exec.proofs.ItemPasses as p
+use Rattle.item_exec.proofs.OrderPasses as o
+use Rattle.item_exec.proofs.settling.settle_items.Goals as goal
+
+pub bounds-items-order : goal.bounds-items-order
+bounds-items-order g c = (c.requires.fit c.loop-at.at 0 c.loop-at-test.true).0
+
+pub settle_item-requires-clause-fits : goal.settle_item-requires-clause-fits
+settle_item-requires-clause-fits g c =
+    let m = g.D.Domain.meaning in
+    let x = c.index-items-order.result in
+    subst (λ ws. Fits ws x) (sym c.loop-at.invariant.wide) (subst (Fits (map m.width c.args.now.now)) (sym c.index-items-order.is) ((c.requires.fit c.loop-at.at 0 c.loop-at-test.true).1 x))
+
+pub loop-at-preserved : goal.loop-at-preserved
+loop-at-preserved g c =
+    let m = g.D.Domain.meaning in
+    let i = c.loop-at.invariant in
+    let vs = map m.width c.args.now.now in
+    let x = c.index-items-order.result in
+    let at = p.chosen_at vs c.args.items.now c.args.order.now c.loop-at.at x c.loop-at-test.true (c.requires.fit c.loop-at.at 0 c.loop-at-test.true).0 c.index-items-order.is in
+    let long = length-map c.args.order.now (λ n. get_or (map (cell_in vs) c.args.items.now) n idle) in
+    record {
+      kept = keeps_trans m c.args.domain.now c.loop-at.domain c.settle_item.new.domain i.kept c.settle_item.ensures.kept;
+      like = c.settle_item.ensures.like;
+      wide = c.settle_item.ensures.wide ∙ i.wide;
+      done = λ v. o.settled_more (chosen_cells (map (cell_in vs) c.args.items.now) c.args.order.now) c.loop-at.at (cell_in vs x) _ _ _ _ _ _ c.requires.ordered (c.requires.ready v)
+          (omega (arith, long, c.loop-at-test.true)) at (i.done v)
+          (subst (λ ws. IsGiven (cell_in ws x) (assignment (map (m.reads c.loop-at.domain v) c.loop-at.next)) (assignment (map (m.reads c.loop-at.domain v) c.loop-at.now))
+          (assignment (map (m.reads c.settle_item.new.domain v) c.settle_item.new.next)) (assignment (map (m.reads c.settle_item.new.domain v) c.settle_item.new.now))) i.wide (c.in_ok-settle_item.ensures.done v));
+    }
+
+pub returns-clause-done : goal.returns-clause-done
+returns-clause-done g c v =
+    let m = g.D.Domain.meaning in
+    let vs = map m.width c.args.now.now in
+    let cells = chosen_cells (map (cell_in vs) c.args.items.now) c.args.order.now in
+    let long = length-map c.args.order.now (λ n. get_or (map (cell_in vs) c.args.items.now) n idle) in
+    subst (λ cs. IsSettled cs (assignment (map (m.reads c.args.domain.now v) c.args.next.now)) (assignment (map (m.reads c.args.domain.now v) c.args.now.now))
+    (assignment (map (m.reads c.loop-at.domain v) c.loop-at.next)) (assignment (map (m.reads c.loop-at.domain v) c.loop-at.now)))
+    (take_all c.loop-at.at cells (omega (arith, long, c.loop-at-test.false))) (c.loop-at.invariant.done v)
