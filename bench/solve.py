@@ -4,9 +4,11 @@
 Usage: bench/solve.py PROGRAM [cases FILE]     (PROGRAM is crates/solve_cases as `rt run` builds it)
 
 Prints a line for each formula: its variables and clauses, the answer, the processor seconds less those of a run that reads the same text and solves nothing, the
-formula's memory (the greatest of a run that builds it, less that of one that reads the text alone), the solver's memory (at most: what is left of the
-program's greatest without the text and the formula), and where minisat is installed its seconds and its propagations a second on the same formula, which
-it is told not to simplify before. With `cases` it writes random small gate formulas to a file instead, a line for each, for two builds of PROGRAM to be
+variables a second (each is propagated once where there is no conflict, and more often where there are), the formula's memory (the greatest of a run that
+builds it, less that of one that reads the text alone), and the solver's memory (at most: what is left of the program's greatest without the text and the
+formula). Where minisat or cadical is installed, a line each with the processor seconds less those of a run on the same clauses and two that contradict each
+other, and the propagations that it counts, in all and a second. Both are told not to simplify before. Each figure of seconds is the least of five runs.
+With `cases` it writes random small gate formulas to a file instead, a line for each, for two builds of PROGRAM to be
 compared on. The formulas are the same at each run.
 """
 import os
@@ -16,7 +18,8 @@ import shutil
 import subprocess
 import sys
 import tempfile
-import time
+
+RUNS = 5
 
 
 class Gates:
@@ -128,7 +131,12 @@ def line(gates, goal, budget):
 
 
 def run(program, text):
-    """The first word of the answer, the processor seconds and the kilobytes."""
+    """The first word of the answer, the processor seconds (the least of five runs) and the kilobytes."""
+    runs = [run_once(program, text) for _ in range(RUNS)]
+    return runs[0][0], min(seconds for _, seconds, _ in runs), runs[0][2]
+
+
+def run_once(program, text):
     with tempfile.TemporaryFile("w+") as given, tempfile.TemporaryFile("w+") as taken, tempfile.TemporaryFile("w+") as told:
         given.write(text)
         given.seek(0)
@@ -139,16 +147,41 @@ def run(program, text):
         return taken.read(100).split(" ")[0].strip(), used.ru_utime + used.ru_stime, int(told.read().split()[-1])
 
 
-def minisat(gates, goal):
-    with tempfile.NamedTemporaryFile("w", suffix=".cnf") as cnf:
-        clauses = gates.clauses + [[goal]]
-        cnf.write(f"p cnf {gates.variables} {len(clauses)}\n" + "".join(" ".join(map(str, c)) + " 0\n" for c in clauses))
+# What each solver is told, and where it says how often it propagated. A conflict in what it read ends it before it solves.
+OTHERS = {
+    "minisat": (["minisat", "-no-pre"], r"propagations\s*:\s*(\d+)"),
+    "cadical": (["cadical", "-n", "--plain", "--lucky=false", "--phase=false", "--forcephase=true"], r"propagations:\s*(\d+)"),
+}
+
+
+def asked(words, clauses, variables):
+    """What another solver prints, and its processor seconds, the least of five runs."""
+    with tempfile.NamedTemporaryFile("w", suffix=".cnf") as cnf, tempfile.TemporaryFile("w+") as told:
+        cnf.write(f"p cnf {variables} {len(clauses)}\n" + "".join(" ".join(map(str, c)) + " 0\n" for c in clauses))
         cnf.flush()
-        start = time.perf_counter()
-        out = subprocess.run(["minisat", "-no-pre", cnf.name], capture_output=True, text=True).stdout
-        seconds = time.perf_counter() - start
-        found = re.search(r"propagations\s*:\s*(\d+)\s*\((\d+|inf|nan)", out)
-        return f"minisat {seconds:.3f} s, {found.group(1)} propagations, {found.group(2)} a second" if found else f"minisat {seconds:.3f} s"
+        least = float("inf")
+        for _ in range(RUNS):
+            told.seek(0)
+            told.truncate()
+            child = subprocess.Popen([*words, cnf.name], stdout=told, stderr=subprocess.DEVNULL)
+            _, _, used = os.wait4(child.pid, 0)
+            least = min(least, used.ru_utime + used.ru_stime)
+        told.seek(0)
+        return told.read(), least
+
+
+def rate(count, seconds):
+    return f"{count / seconds:,.0f} a second" if seconds > 0.002 else "too short to tell a rate"
+
+
+def other(name, gates, goal):
+    words, pattern = OTHERS[name]
+    clauses = gates.clauses + [[goal]]
+    said, whole = asked(words, clauses, gates.variables)
+    _, reading = asked(words, clauses + [[1], [-1]], gates.variables)
+    found = re.search(pattern, said)
+    count = int(found.group(1)) if found else 0
+    return f"    {name}: {whole - reading:.3f} s of {whole:.3f}, {count:,} propagations, {rate(count, whole - reading)}"
 
 
 SHAPES = [
@@ -178,11 +211,13 @@ def main():
         _, reading, built = run(program, f"{text.rstrip()} {gates.variables + 1} 0\n")
         formula = built - read
         solver = whole - formula - empty - len(text) // 1024
-        beside = minisat(gates, goal) if shutil.which("minisat") else ""
         print(
-            f"{name}: {gates.variables} variables, {len(gates.clauses) + 1} clauses, {answer}, {seconds - reading:.3f} s, "
-            f"formula {formula} KB, solver at most {solver} KB, program {whole} KB; {beside}"
+            f"{name}: {gates.variables} variables, {len(gates.clauses) + 1} clauses, {answer}, {seconds - reading:.3f} s, {rate(gates.variables, seconds - reading)}, "
+            f"formula {formula} KB, solver at most {solver} KB, program {whole} KB"
         )
+        for tool in OTHERS:
+            if shutil.which(tool):
+                print(other(tool, gates, goal))
 
 
 if __name__ == "__main__":

@@ -2,7 +2,7 @@
 use Rattle.std.proofs.Common.{◌≡◌, ℕ, ◌+◌, ◌<◌, ◌≤◌, Bool, true, false, cond, eqb, List, [], ◌∷◌, refl, sym, ap, subst, ◌∙◌, Option, Some, None, inl, inr, get_or, set, length, suc, arith, All, get_or-set_other}
 use Rattle.std.specs.BinaryHeap.{IsHeap, PopsGreatest}
 use Rattle.std.specs.List.Sorted.{IsPermutation}
-use Rattle.std.specs.Option.{IfSome, IfNone, MatchOption}
+use Rattle.std.specs.Option.{IfSome, IfNone}
 use Rattle.std.specs.Ordering.{nat_cmp}
 use Rattle.std.proofs.lemmas.Bool.{cases_eq, cases_lt, false≢true, ne_eqb, eq-eqb}
 use Rattle.std.proofs.lemmas.Grind.{get_or-set_at}
@@ -11,7 +11,7 @@ use Rattle.std.proofs.lemmas.List.Sorted.{IsPermutation-refl, sum_by_pushed, sum
 use Rattle.cnf_core.specs.declared.lit.Lit.{Lit}
 use Rattle.cnf_core.specs.Lit.{variable_of}
 use Rattle.sat_core.specs.declared.trail.Mark.{Mark}
-use Rattle.sat_core.specs.Places.{StandsAt, times, IsPending, IsClear, IsNewest, RestBelow, AreBelow}
+use Rattle.sat_core.specs.Places.{StandsAt, times, IsPending, IsClear, IsNewest, NewestSays, RestBelow, AreBelow}
 use Rattle.sat_core.specs.Rests.{needs}
 use Rattle.sat_core.proofs.PlaceLaws.{no_mark, stands_here}
 
@@ -207,7 +207,7 @@ nil_by (k ∷ ks) e = absurd (omega arith)
 
 -- what `pop` of the heap says
 pub newest_says : (o : Option ℕ) (flags : List Bool) (old new : List ℕ) (n m : ℕ) → n ≡ length old → IsHeap nat_cmp old → IfSome o (λ x. IsPermutation old (x ∷ new)) → IfSome o (λ x. PopsGreatest nat_cmp old x new) → IfNone o (n ≡ 0) → IfNone o ((new ≡ old) × (m ≡ n))
-    → MatchOption o ((marks : List Mark) (top : ℕ) → IsPending marks flags old top top → IsClear flags new) (λ q. (marks : List Mark) (top : ℕ) → IsPending marks flags old top top → IsNewest marks flags new q top)
+    → NewestSays flags old flags new o
 newest_says None flags old new n m count heap perm most zero same =
     λ marks top h. none_left_by marks flags old new top h (nil_by old (sym count ∙ zero)) same.0
 newest_says (Some q) flags old new n m count heap perm most zero same =

@@ -1,5 +1,5 @@
 -- Where the mark of each variable stands, and which marks an analysis has still to look at.
-use Rattle.std.specs.Prelude.{◌≡◌, ℕ, ◌+◌, ◌<◌, ◌≤◌, Bool, true, false, cond, eqb, List, [], ◌⊎◌, length, slice_index_or, suc}
+use Rattle.std.specs.Prelude.{◌≡◌, ℕ, ◌+◌, ◌<◌, ◌≤◌, Bool, true, false, cond, eqb, List, [], Option, Some, None, ◌⊎◌, length, slice_index_or, suc, All}
 use Rattle.std.specs.List.{sum_by}
 use Rattle.cnf_core.specs.declared.lit.Lit.{Lit}
 use Rattle.cnf_core.specs.Lit.{variable_of}
@@ -53,6 +53,27 @@ pub record IsNewest (marks : List Mark) (flags : List Bool) (waiting : List ℕ)
   pub between : (k x : ℕ) → q < k → k < top → StandsAt marks k x → needs flags x ≡ false
   pub pending : IsPending marks flags waiting q (q + 1)
 
--- the marks of the clause's variables that are not flagged stand below a place
+-- the mark of a variable that is not flagged stands below a place
+abbrev pub IsBelow : List Mark → List Bool → ℕ → ℕ → Type 0
+IsBelow marks flags x top = needs flags x ≡ false → (k : ℕ) → StandsAt marks k x → k < top
+
+-- so for each variable of the clause
 abbrev pub AreBelow : List Mark → List Bool → List Lit → ℕ → Type 0
-AreBelow marks flags clause top = (x : ℕ) → has_variable clause x ≡ true → needs flags x ≡ false → (k : ℕ) → StandsAt marks k x → k < top
+AreBelow marks flags clause top = (x : ℕ) → has_variable clause x ≡ true → IsBelow marks flags x top
+
+-- so for each variable of the mark's reason
+abbrev pub ReasonBelow : List (List Lit) → List Mark → List Bool → Mark → ℕ → Type 0
+ReasonBelow cs marks flags m top = (r : ℕ) → m.reason ≡ suc r → AreBelow marks flags (slice_index_or cs r []) top
+
+-- each variable of the mark's reason has a mark
+abbrev pub ReasonMarked : List (List Lit) → List Mark → Mark → Type 0
+ReasonMarked cs marks m = (r : ℕ) → m.reason ≡ suc r → All (λ l. HasMark marks (variable_of l)) (slice_index_or cs r [])
+
+-- where the marks below a place waited as they should, and the place is high enough, they do so afterwards
+abbrev pub StaysPending : List Mark → (ℕ → Type 0) → List Bool → List ℕ → List Bool → List ℕ → Type 0
+StaysPending marks IsHigh flags waiting flags' waiting' = (top bound : ℕ) → IsPending marks flags waiting top bound → IsHigh top → IsPending marks flags' waiting' top bound
+
+-- the newest of the places that waited, or that nothing did, whatever the marks
+abbrev pub NewestSays : List Bool → List ℕ → List Bool → List ℕ → Option ℕ → Type 0
+NewestSays flags waiting flags' waiting' None = (marks : List Mark) (top : ℕ) → IsPending marks flags waiting top top → IsClear flags' waiting'
+NewestSays flags waiting flags' waiting' (Some q) = (marks : List Mark) (top : ℕ) → IsPending marks flags waiting top top → IsNewest marks flags' waiting' q top

@@ -1,4 +1,4 @@
-ghost use Rattle.std.specs.Prelude.{◌≡◌, ◌<◌, ◌≤◌, ◌++◌, ◌∷◌, [], Some, ◌-◌, length, take, drop, slice_get, OnOk};
+ghost use Rattle.std.specs.Prelude.{◌≡◌, ◌<◌, ◌≤◌, ◌++◌, ◌∷◌, [], Some, ◌-◌, length, take, drop, slice_get, IfOk, OnOk};
 ghost use Rattle.sat_core.specs.Arena.{pieces, AreEnds, end_before};
 
 use bits_core::NoMemory;
@@ -57,14 +57,14 @@ fn piece<'a>(lits: &'a [Lit], ends: &[usize], at: usize) -> &'a [Lit]
 }
 
 impl Arena {
-    /// No clauses. Takes no memory.
-    pub fn new(alloc: Global) -> Arena
-        ensures { result ≡ [] }
+    /// No clauses, with room for the ends of so many.
+    pub fn new(alloc: Global, clauses: usize) -> Result<Arena, NoMemory>
+        ensures { IfOk result (λ arena. arena ≡ []) }
     {
-        Arena {
+        Ok(Arena {
             lits: Vec::new(alloc),
-            ends: Vec::new(alloc),
-        }
+            ends: Vec::with_capacity(alloc, clauses)?,
+        })
     }
 
     pub fn len(&self) -> usize

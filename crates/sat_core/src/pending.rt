@@ -1,10 +1,9 @@
-ghost use Rattle.std.specs.Prelude.{◌≡◌, ℕ, ◌<◌, ◌||◌, List, eqb, false, length, slice_set, MatchOption, OnOk, IfOk};
+ghost use Rattle.std.specs.Prelude.{◌≡◌, ℕ, ◌<◌, ◌||◌, eqb, false, length, slice_set, OnOk, IfOk};
 ghost use Rattle.std.specs.BinaryHeap.{IsHeap, heap_items};
 ghost use Rattle.std.specs.Ordering.{nat_cmp};
 ghost use Rattle.std.proofs.Props.{props};
-ghost use Rattle.sat_core.specs.Places.{HasMark, StandsAt, IsPending, IsClear, IsNewest};
+ghost use Rattle.sat_core.specs.Places.{HasMark, IsBelow, StaysPending, NewestSays, IsClear};
 ghost use Rattle.sat_core.specs.Rests.{needs};
-ghost use Rattle.sat_core.specs.declared.trail.Mark.{Mark};
 
 use crate::marks::Marks;
 use bits_core::NoMemory;
@@ -38,7 +37,7 @@ impl Pending {
         requires there { HasMark marks.now variable }
         ensures size { OnOk result (length self.new.flags.items ≡ length self.old.flags.items) }
         ensures flags { OnOk result ((x : ℕ) → needs self.new.flags.items x ≡ (needs self.old.flags.items x || eqb variable x)) }
-        ensures waits { OnOk result ((top bound : ℕ) → IsPending marks.now self.old.flags.items (heap_items self.old.places) top bound → (needs self.old.flags.items variable ≡ false → (k : ℕ) → StandsAt marks.now k variable → k < top) → IsPending marks.now self.new.flags.items (heap_items self.new.places) top bound) }
+        ensures waits { OnOk result (StaysPending marks.now (IsBelow marks.now self.old.flags.items variable) self.old.flags.items (heap_items self.old.places) self.new.flags.items (heap_items self.new.places)) }
     {
         if self.flags[variable as usize] {
             return Ok(());
@@ -51,7 +50,7 @@ impl Pending {
     /// Takes out the newest place that waits. The cost is logarithmic in what waits.
     pub fn newest(&mut self) -> Option<usize>
         ensures flags { self.new.flags.items ≡ self.old.flags.items }
-        ensures newest { MatchOption result ((marks : List Mark) (top : ℕ) → IsPending marks self.old.flags.items (heap_items self.old.places) top top → IsClear self.new.flags.items (heap_items self.new.places)) (λ place. (marks : List Mark) (top : ℕ) → IsPending marks self.old.flags.items (heap_items self.old.places) top top → IsNewest marks self.new.flags.items (heap_items self.new.places) place top) }
+        ensures newest { NewestSays self.old.flags.items (heap_items self.old.places) self.new.flags.items (heap_items self.new.places) result }
     {
         self.places.pop()
     }

@@ -43,7 +43,7 @@ fn gathered(alloc: Global, clauses: &[Clause]) -> Result<Arena, NoMemory>
     ensures same { IfOk result (λ arena. arena ≡ clauses.now) }
     ensures above { OnOk result (All (All (λ l. 1 ≤ variable_of l)) clauses.now) }
 {
-    let mut arena = Arena::new(alloc);
+    let mut arena = Arena::new(alloc, clauses.len())?;
     for clause in clauses {
         see_variables(clause.as_slice());
         arena.push(clause.as_slice())?;
@@ -92,7 +92,7 @@ pub fn solve(
     let size = formula.variables as usize + 1;
     let mut clauses = gathered(alloc, formula.clauses.as_slice())?;
     let mut trail = Trail::new(alloc, size)?;
-    let mut watches = Watches::new(alloc, 2 * size)?;
+    let mut watches = Watches::new(alloc, clauses.len(), 2 * size)?;
     let mut pending = Pending::new(alloc, size)?;
     let mut log = Items::new(alloc);
     if let Some(place) = begin(&clauses, leaves, &mut trail, &mut watches)? {

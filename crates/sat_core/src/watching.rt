@@ -4,6 +4,7 @@ ghost use Rattle.sat_core.specs.Watch.{code_of, list_at, taken_out, listed_more,
 
 use bits_core::NoMemory;
 use cnf_core::Lit;
+use smallvec::SmallVec;
 use std::alloc::Global;
 use std::marker::Model;
 
@@ -14,10 +15,11 @@ pub struct Pair {
     pub second: Lit,
 }
 
-/// The places of the clauses that are watched at a literal. Contracts see their list.
+/// The places of the clauses that are watched at a literal. Contracts see their list. Most literals have three or fewer, which lie
+/// in the value itself, so that a formula's lists are made and read without an allocation each.
 #[derive(Drop)]
 pub struct Watchers {
-    places: Vec<usize>,
+    places: SmallVec<usize, 3>,
 }
 
 impl Model for Watchers {
@@ -33,7 +35,7 @@ impl Watchers {
         ensures { result ≡ [] }
     {
         Watchers {
-            places: Vec::new(alloc),
+            places: SmallVec::new(alloc),
         }
     }
 
@@ -47,7 +49,7 @@ impl Watchers {
         requires { at < length self.now }
         ensures { result ≡ slice_index_or self.now at result }
     {
-        self.places[at]
+        self.places.as_slice()[at]
     }
 
     pub fn push(&mut self, place: usize) -> Result<(), NoMemory>
@@ -64,7 +66,7 @@ impl Watchers {
     {
         if let Some(last) = self.places.pop() {
             if at < self.places.len() {
-                self.places[at] = last;
+                self.places.as_mut_slice()[at] = last;
             }
         }
     }
@@ -87,8 +89,8 @@ pub fn code(lit: Lit) -> usize
 }
 
 impl Watches {
-    /// No clause watched, with room for the lists of so many literals.
-    pub fn new(alloc: Global, room: usize) -> Result<Watches, NoMemory>
+    /// No clause watched, with room for so many clauses and for the lists of so many literals.
+    pub fn new(alloc: Global, clauses: usize, room: usize) -> Result<Watches, NoMemory>
         ensures pairs { IfOk result (λ watches. watches.pairs.items ≡ []) }
         ensures room { IfOk result (λ watches. length watches.lists.items ≡ room) }
     {
@@ -97,7 +99,7 @@ impl Watches {
             lists.push(Watchers::new(alloc))?;
         }
         Ok(Watches {
-            pairs: Vec::new(alloc),
+            pairs: Vec::with_capacity(alloc, clauses)?,
             lists,
         })
     }
