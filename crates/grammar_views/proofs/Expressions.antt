@@ -1,6 +1,5 @@
 -- What an expression spells, another one spells in tokens that say the same.
-use Rattle.std.proofs.Common.{◌≡◌, ℕ, true, List, [], ◌∷◌, refl, ap, sym, ◌∙◌}
-use Rattle.vl_tree.specs.declared.tokens.Token.{Token}
+use Rattle.std.proofs.Common.{ℕ, List, [], ◌∷◌, refl, ap, sym, ◌∙◌}
 use Rattle.vl_tree.specs.declared.words.Word.TheVariants as word
 use Rattle.vl_tree.specs.declared.expressions.Expr.{Expr}
 use Rattle.vl_tree.specs.declared.expressions.Expr.TheVariants as e
@@ -10,7 +9,7 @@ use Rattle.vl_tree.specs.Words.{word_of}
 use Rattle.vl_grammar.specs.Roles.{binds, is_unary}
 use Rattle.vl_grammar.specs.Read.{Tokens}
 use Rattle.vl_grammar.specs.Spells.{Whole, plain, choice, Joined, alone, binary, Prefix, unary, itself, Primary, number, free_number, name, selected, call, system, group, concat, repeat, Listed, one, more, Selected, index, range, up, down}
-use Rattle.grammar_views.proofs.Like.{Same, Like, word_same, of_word, led, Found, Marked, marked}
+use Rattle.grammar_views.proofs.Like.{Like, word_same, of_word, led, Found, Marked, marked}
 
 abbrev IsSome : List Expr → Type 0
 IsSome [] = ⊥

@@ -1,8 +1,7 @@
 -- The tests of the grammar's forms answer the same of trees that are made in the same way.
-use Rattle.std.proofs.Common.{◌≡◌, ℕ, suc, ◌+◌, ◌==◌, Bool, true, false, cond, ◌&&◌, inl, inr, List, [], ◌∷◌, length, refl, ap, sym, ◌∙◌, subst}
-use Rattle.std.specs.Prelude.{nat_le, count_by, fold}
+use Rattle.std.proofs.Common.{◌≡◌, ℕ, suc, ◌+◌, ◌==◌, Bool, true, cond, ◌&&◌, inl, inr, List, [], ◌∷◌, length, refl, ap, sym, ◌∙◌, subst}
+use Rattle.std.specs.Prelude.{nat_le, fold}
 use Rattle.std.specs.List.{list_all}
-use Rattle.vl_tree.specs.declared.tokens.Token.{Token}
 use Rattle.vl_tree.specs.declared.words.Word.{Word}
 use Rattle.vl_tree.specs.declared.words.Word.TheVariants as word
 use Rattle.vl_tree.specs.declared.statements.CaseWord.{CaseWord}
@@ -13,12 +12,12 @@ use Rattle.vl_tree.specs.declared.modules.Gate.{Gate}
 use Rattle.vl_tree.specs.declared.modules.Gate.TheVariants as gate
 use Rattle.vl_tree.specs.declared.modules.GateInstance.{GateInstance}
 use Rattle.vl_tree.specs.declared.modules.GateItem.{GateItem}
-use Rattle.vl_rules.specs.Form.{Rule, lval, stmt, item, Tree, Form, fixed, value, made, either, many}
-use Rattle.vl_rules.specs.Shapes.{◌∣◌, ◌▸◌, ◌◂◌, ◌⊗◌, maybe, means, list, in_parens, ended, name}
+use Rattle.vl_rules.specs.Form.{Rule, lval, stmt, item, Form, fixed, value, many}
+use Rattle.vl_rules.specs.Shapes.{◌▸◌, ◌◂◌, ◌⊗◌, means, list, in_parens, ended}
 use Rattle.vl_rules.specs.Declarations.{range, type_form, direction, net_word, var, ports_item, nets_item, constant_word, constant_value, constants_item}
 use Rattle.vl_rules.specs.Ports.{first_parameter, next_parameter, other_parameter, parameters, parameter_part, port_head, first_port, next_port, other_port, declared_ports, port_list, port_part}
 use Rattle.vl_rules.specs.Events.{selects, left_side, edge_word, edge, joint, next_edge, edges, listed_events, events}
-use Rattle.vl_rules.specs.Statements.{block_name, loop_head, sequence, otherwise, choice, arm_value, default_word, arm_values, arm, is_default, at_most_one, arm_row, arms, cases, turns, assign_word, write, statement}
+use Rattle.vl_rules.specs.Statements.{block_name, loop_head, sequence, otherwise, choice, default_word, arm_values, arm, is_default, at_most_one, arm_row, arms, cases, turns, assign_word, write, statement}
 use Rattle.vl_rules.specs.Functions.{function_input, inputs, local_word, vector, declaration, function}
 use Rattle.vl_rules.specs.Instances.{named_bind, values, instance, overrides, instances_item, gate_word, gate_instance, has_one_input, right_inputs_of, right_inputs, any_gates, gates_item}
 use Rattle.vl_rules.specs.Generate.{block_items, block_form, item_loop, block_otherwise, item_choice, item_arm, is_default_item, item_arms, item_cases, generated}

@@ -1,6 +1,5 @@
 -- Parts of tokens that say the same; each list of tokens is a source or breaks, and at one place.
-use Rattle.std.proofs.Common.{◌≡◌, ℕ, suc, ◌<◌, Bool, true, false, ◌⊎◌, inl, inr, if◌then◌else◌, List, [], ◌∷◌, ◌++◌, map, length, Option, Some, None, refl, ap, sym, ◌∙◌, subst, arith}
-use denote.Ref.{Bor}
+use Rattle.std.proofs.Common.{◌≡◌, Bool, true, false, ◌⊎◌, inl, inr, if◌then◌else◌, List, [], ◌∷◌, ◌++◌, map, length, Option, Some, None, refl, ap, sym, ◌∙◌, subst, arith}
 use Rattle.vl_tree.specs.declared.tokens.Token.{Token}
 use Rattle.vl_tree.specs.declared.words.Word.TheVariants as word
 use Rattle.vl_tree.specs.declared.modules.Module.{Module}
@@ -13,7 +12,7 @@ use Rattle.vl_rules.specs.Files.{into_first, cut, Spelled, Breaks}
 use Rattle.vl_rules.proofs.Modules.{module_spelled, none_refused, none_left}
 use Rattle.vl_rules.proofs.Parts.{from_parts, broken}
 use Rattle.grammar_views.specs.Views.{IsSpelled, BreaksAt}
-use Rattle.grammar_views.proofs.Like.{Same, Like, like_of, like_back, word_same, led}
+use Rattle.grammar_views.proofs.Like.{Same, Like, like_of, like_back, word_same}
 use Rattle.grammar_views.proofs.Rules.{module_like, source_like}
 
 -- Parts

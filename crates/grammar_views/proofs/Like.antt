@@ -1,5 +1,5 @@
 -- Tokens that say the same, one by one.
-use Rattle.std.proofs.Common.{◌≡◌, ℕ, zero, suc, ◌-◌, Bool, true, not, ◌&&◌, List, [], ◌∷◌, map, length, refl, ap, sym, ◌∙◌, subst}
+use Rattle.std.proofs.Common.{◌≡◌, ℕ, zero, suc, ◌-◌, true, not, ◌&&◌, [], ◌∷◌, map, length, refl, ap, sym, ◌∙◌}
 use Rattle.vl_tree.specs.declared.tokens.Token.{Token}
 use Rattle.vl_tree.specs.declared.words.Word.{Word}
 use Rattle.vl_tree.specs.Words.{word, word_of, next}

@@ -1,5 +1,5 @@
 -- The rules that lead back to themselves, by induction on the depth, and modules and sources.
-use Rattle.std.proofs.Common.{◌≡◌, ℕ, zero, suc, List, [], refl, subst}
+use Rattle.std.proofs.Common.{ℕ, zero, suc, List, [], subst}
 use Rattle.vl_tree.specs.declared.modules.Module.{Module}
 use Rattle.vl_grammar.specs.Read.{Tokens}
 use Rattle.vl_rules.specs.Form.{Rule, Tree, Form, Spells}

@@ -1,8 +1,6 @@
 -- What a tree of a form spells, another one spells in tokens that say the same, and the two have the same shape.
 use Rattle.std.proofs.Common.{◌≡◌, Bool, true, false, ◌&&◌, ◌⊎◌, inl, inr, List, [], ◌∷◌, refl, ap, sym, ◌∙◌, subst}
-use Rattle.vl_tree.specs.declared.tokens.Token.{Token}
-use Rattle.vl_tree.specs.declared.words.Word.{Word}
-use Rattle.vl_tree.specs.Words.{next, same_word}
+use Rattle.vl_tree.specs.Words.{same_word}
 use Rattle.vl_grammar.specs.Read.{Tokens}
 use Rattle.vl_rules.specs.Form.{Rule, Tree, Form, empty, unless, fixed, value, select_rest, seq, made, either, many, one_and, such, rule, Spells, Row, Begun}
 use Rattle.vl_rules.proofs.Tools.{and_first, and_second}
