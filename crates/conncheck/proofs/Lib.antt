@@ -4,6 +4,7 @@ pub mod JudgeLaws
 pub mod AllowsLaws
 pub mod ReadLaws
 pub mod LogLaws
+pub mod TokenLaws
 pub mod WalkLaws
 pub mod WordLaws
 pub mod NeedLaws

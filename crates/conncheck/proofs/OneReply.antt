@@ -3,6 +3,7 @@ use Rattle.std.proofs.Common.{◌≡◌, ◌∙◌, ◌++◌, ℕ, Bool, true, f
 use Rattle.bits_core.specs.declared.names.File.{File}
 use Rattle.cnf_core.specs.Text.{text_lines}
 use Rattle.design_core.specs.Cells.{In}
+use Rattle.grammar_views.proofs.Files.{breaks_in_one_place, never_both}
 use Rattle.log_verdict.specs.Answer.{IsJudged}
 use Rattle.plain_form.specs.Table.{Row, rows_of}
 use Rattle.plain_form.specs.Wires.{Wires, source_of}
@@ -24,7 +25,7 @@ use Rattle.conncheck.specs.Reading.{OfFile, OfFiles, OfLength}
 use Rattle.conncheck.specs.Reply.{Reply, logged, report}
 use Rattle.conncheck.specs.Texts.{Judged}
 use Rattle.conncheck.specs.Words.{Text}
-use Rattle.conncheck.specs.commands.Check.{IsIncluded, OfReached, OfSource, OfTable, OfUnread, OfWalk, OfWords, Values, Walks, has_room}
+use Rattle.conncheck.specs.commands.Check.{IsIncluded, OfReached, OfSource, OfTable, OfTokens, OfUnread, OfWalk, OfWords, Values, Walks, bad_syntax, has_room}
 use Rattle.conncheck.specs.commands.Lrat.{IsLogged, OfLogs}
 
 -- at most one reply is of this kind
@@ -85,8 +86,14 @@ module _ (v : Values) where
   one_words : (table : Text) (words : List Text) → IsOne (OfWords v table words)
   one_words table words r q h k = one_source table (source_of v.top words) r q h k
 
+  one_tokens : (table : Text) (fs : List File) (ts : List Seen) → IsOne (OfTokens v table fs ts)
+  one_tokens table fs ts r q (inl h) (inl k) = h.2 ∙ (ap (bad_syntax fs) (breaks_in_one_place ts h.0 k.0 h.1 k.1) ∙ sym k.2)
+  one_tokens table fs ts r q (inl h) (inr k) = absurd (never_both ts h.0 k.0 h.1)
+  one_tokens table fs ts r q (inr h) (inl k) = absurd (never_both ts k.0 h.0 k.1)
+  one_tokens table fs ts r q (inr h) (inr k) = one_words table (map (λ t. t.text) ts) r q h.1 k.1
+
   one_reached : (table : Text) (fs : List File) (Need : Text → Reply → Type 0) (a : Reached (List Seen)) → ((n : Text) → IsOne (Need n)) → IsOne (OfReached v table fs Need a)
-  one_reached table fs Need (Ok ts) one r q h k = one_words table (map (λ t. t.text) ts) r q h k
+  one_reached table fs Need (Ok ts) one r q h k = one_tokens table fs ts r q h k
   one_reached table fs Need (Err (halt.Stop (stop.Fault f))) one r q h k = h ∙ sym k
   one_reached table fs Need (Err (halt.Stop (stop.Limit l))) one r q h k = h ∙ sym k
   one_reached table fs Need (Err (halt.Stop stop.NoMemory)) one r q h k = absurd h

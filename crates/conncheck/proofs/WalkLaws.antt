@@ -22,11 +22,11 @@ use Rattle.conncheck.specs.declared.status.Status.{Status}
 use Rattle.conncheck.specs.declared.status.Stop.{Stop}
 use Rattle.conncheck.specs.declared.status.Stop.TheVariants.{Memory}
 use Rattle.conncheck.proofs.AllowsLaws.{absent, gone_file, long_file}
-use Rattle.conncheck.proofs.JudgeLaws.{some_reply}
 use Rattle.conncheck.proofs.LogLaws.{some_log}
 use Rattle.conncheck.proofs.NeedLaws.{IsAsking, kept_asks}
 use Rattle.conncheck.proofs.PrintLaws.{nothing}
 use Rattle.conncheck.proofs.ReadLaws as reads
+use Rattle.conncheck.proofs.TokenLaws.{some_tokens}
 use Rattle.conncheck.specs.Command.{Command, IsReply, check, lrat}
 use Rattle.conncheck.specs.Reading.{OfFile, OfLength}
 use Rattle.vl_tree.specs.Codes.{bound}
@@ -36,7 +36,7 @@ use Rattle.vl_lex.specs.Sources.{file_of, files_of}
 use Rattle.vl_lex.specs.declared.source.Source.{Source}
 use Rattle.conncheck.specs.Reply.{Reply, bad_words, limited, missing, not_yet, refused, too_long}
 use Rattle.conncheck.specs.Words.{Text}
-use Rattle.conncheck.specs.commands.Check.{Means, OfReached, OfUnread, OfWalk, OfWords, Values, first_of, has_room}
+use Rattle.conncheck.specs.commands.Check.{Means, OfReached, OfTokens, OfUnread, OfWalk, Values, first_of, has_room}
 use Rattle.conncheck.specs.commands.Lrat.{OfLogs}
 
 -- what is said of a walk's end goes over to any question for a file
@@ -106,7 +106,7 @@ module _ (c : Values) (table : Text) (named : ℕ) where
 
   any_reached : (files : Files) (fs : List File) (r : Reached (List Seen)) → IsAsking r → kept fs named c.defines ≡ r
       → ((n : Text) → kept fs named c.defines ≡ Err (halt.Need n) → (x : Reply) × OfWalk c table named files fs x) → (x : Reply) × OfWalk c table named files fs x
-  any_reached files fs (Ok ts) h e more = let o = some_reply c table (map (λ t. t.text) ts) in (o.0, at_end files fs o.0 (Ok ts) e o.1)
+  any_reached files fs (Ok ts) h e more = let o = some_tokens c table fs ts in (o.0, at_end files fs o.0 (Ok ts) e o.1)
   any_reached files fs (Err (halt.Stop (stop.Fault f))) h e more = (refused f.code (place_text fs f.place), at_end files fs (refused f.code (place_text fs f.place)) (Err (halt.Stop (stop.Fault f))) e refl)
   any_reached files fs (Err (halt.Stop (stop.Limit l))) h e more = (limited l, at_end files fs (limited l) (Err (halt.Stop (stop.Limit l))) e refl)
   any_reached files fs (Err (halt.Stop stop.NoMemory)) h e more = absurd h.is
@@ -232,16 +232,10 @@ has_more ss lt = at (length (files_of ss)) (length-map ss file_of)
     at : (n : ℕ) → n ≡ length ss → nat_lt n 1024 ≡ true
     at n e = grind (arith, nat_tests)
 
-texts_same : (ts : List Token) → map (λ t. t.text.now) ts ≡ map (λ (s : Seen). s.text) (map view ts)
-texts_same [] = refl
-texts_same (t ∷ ts) = ap (λ (ws : List Text). t.text.now ∷ ws) (texts_same ts)
-
 -- the walk ends with its tokens
 pub at_tokens : (c : Values) (table : Text) (named : ℕ) (files : Files) (fs : List File) (o : Reply) (ts : List Token) → kept fs named c.defines ≡ Ok (map view ts)
-    → OfWords c table (map (λ t. t.text.now) ts) o → OfWalk c table named files fs o
-at_tokens c table named files fs o ts e h =
-    let P : List Text → Type 0 = λ ws. OfWords c table ws o in
-    at_end c table named files fs o (Ok (map view ts)) e (subst P (texts_same ts) h)
+    → OfTokens c table fs (map view ts) o → OfWalk c table named files fs o
+at_tokens c table named files fs o ts e h = at_end c table named files fs o (Ok (map view ts)) e h
 
 -- more named sources than a check may have
 pub too_many : (fs : List File) (named : ℕ) (defines : List Text) → 1024 < named → kept fs named defines ≡ Err (halt.Stop (stop.Limit code.Files))

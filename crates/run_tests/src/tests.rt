@@ -104,7 +104,6 @@ fn refusals(rt: HostRuntime) -> Result<(), Fail> {
     let source = b"REFUSED E00 NotYet\nAT m.v\n".as_slice();
     let table = b"REFUSED E00 NotYet\nAT t.csv\n".as_slice();
     let twice = b"CONNECTION,c1,m,a,m,y\nCONNECTION,c1,m,a,m,y".as_slice();
-    assert!(rt; ends(alloc, ROW, b"module m(input a", Status::Refused, source)?);
     assert!(rt;
         ends(
             alloc,
@@ -127,7 +126,7 @@ fn refusals(rt: HostRuntime) -> Result<(), Fail> {
         ends(
             alloc,
             ROW,
-            b"module m(input a,output reg);endmodule",
+            b"module m(input a,output reg z);endmodule",
             Status::Refused,
             source
         )?
@@ -307,7 +306,7 @@ fn directives_of_a_source(rt: HostRuntime) -> Result<(), Fail> {
         (
             b"`include \"t.csv\"\nmodule m(input a, output y); assign y = a; endmodule".as_slice(),
             Status::Refused,
-            b"REFUSED E00 NotYet\nAT m.v\n".as_slice(),
+            b"REFUSED E05 Syntax\nAT t.csv 1\n".as_slice(),
         ),
     ] {
         let line = ["check", "--top", "m", "--table", "t.csv", "m.v"];
@@ -344,5 +343,44 @@ fn macros_and_more_files(rt: HostRuntime) -> Result<(), Fail> {
     let gone = ["check", "--top", "m", "--table", "t.csv", "m.v", "n.v"];
     let missing = b"READFAULT n.v\n".as_slice();
     assert!(rt; ends_with(alloc, &gone, MODULE, Status::ReadFault, missing)?);
+    Ok(())
+}
+
+#[test]
+fn syntax_of_sources(rt: HostRuntime) -> Result<(), Fail> {
+    let alloc = rt.alloc();
+    let line = ["check", "--top", "m", "--table", "t.csv", "m.v"];
+    for (source, text) in [
+        (
+            b"module m(input a".as_slice(),
+            b"REFUSED E05 Syntax\nAT m.v 1\n".as_slice(),
+        ),
+        (
+            b"module m(input a, output y);\nassign y = a;\nendmodule\n\nmodule n(input b\nendmodule".as_slice(),
+            b"REFUSED E05 Syntax\nAT m.v 5\n".as_slice(),
+        ),
+        (
+            b"module m(input a, output y); assign y = a; endmodule\n;".as_slice(),
+            b"REFUSED E05 Syntax\nAT m.v 2\n".as_slice(),
+        ),
+        (
+            b"\nmodule m(input a, output y); assign y = a".as_slice(),
+            b"REFUSED E05 Syntax\nAT m.v 2\n".as_slice(),
+        ),
+        (
+            b"module m(input a;\nassign y = 1'bx; endmodule".as_slice(),
+            b"REFUSED E04 LeftOut\nAT m.v 2\n".as_slice(),
+        ),
+    ] {
+        assert!(rt; ends_with(alloc, &line, source, Status::Refused, text)?);
+    }
+    let include = b"module m(input a\n`include \"d.vh\"".as_slice();
+    let missing = b"READFAULT d.vh\n".as_slice();
+    assert!(rt; ends_with(alloc, &line, include, Status::ReadFault, missing)?);
+    let table = b"REFUSED E05 Syntax\nAT m.v 1\n".as_slice();
+    assert!(rt; ends(alloc, b"x", b"module m(input a", Status::Refused, table)?);
+    let two = ["check", "--top", "m", "--table", "t.csv", "m.v", "t.csv"];
+    let second = b"REFUSED E05 Syntax\nAT t.csv 1\n".as_slice();
+    assert!(rt; ends_with(alloc, &two, MODULE, Status::Refused, second)?);
     Ok(())
 }

@@ -1,9 +1,10 @@
 -- `check`: the rows of a table over sources.
-use Rattle.std.specs.Prelude.{◌≡◌, List, [], ◌∷◌, ◌++◌, ℕ, Bool, true, false, ◌&&◌, ◌||◌, ◌==◌, nat_lt, Option, Some, None, Ok, Err, if◌then◌else◌, codes, map, length}
+use Rattle.std.specs.Prelude.{◌≡◌, List, [], ◌∷◌, ◌++◌, ℕ, Bool, true, false, ◌&&◌, ◌||◌, ◌==◌, ◌⊎◌, nat_lt, Option, Some, None, Ok, Err, if◌then◌else◌, codes, map, length}
 use Rattle.std.specs.Char.{is_ascii_alphanumeric}
 use Rattle.std.specs.List.{list_all}
 use Rattle.bits_core.specs.declared.names.File.{File}
 use Rattle.design_core.specs.Cells.{In}
+use Rattle.grammar_views.specs.Views.{BreaksAt, IsSpelled}
 use Rattle.plain_form.specs.Pieces.{pieces}
 use Rattle.plain_form.specs.Table.{Row, rows_of}
 use Rattle.plain_form.specs.Wires.{Wires, source_of}
@@ -14,6 +15,7 @@ use Rattle.vl_lex.specs.Lexed.{Seen}
 use Rattle.vl_lex.specs.Walk.{kept}
 use Rattle.vl_lex.specs.declared.gate.Halt.TheVariants as halt
 use Rattle.vl_tree.specs.declared.faults.Code.TheVariants as code
+use Rattle.vl_tree.specs.declared.faults.Place.TheVariants as place
 use Rattle.vl_tree.specs.declared.faults.Stop.TheVariants as stop
 use Rattle.vl_tree.specs.Codes.{bound}
 use Rattle.conncheck.specs.Reading.{OfFile, OfFiles}
@@ -89,9 +91,18 @@ OfSource v table (Some w) r = OfTable v w (rows_of w.names v.top table) r
 abbrev pub OfWords : Values → Text → List Text → Reply → Type 0
 OfWords v table words r = OfSource v table (source_of v.top words) r
 
+-- the fault of syntax at a token, by its file and line
+abbrev pub bad_syntax : List File → Seen → Reply
+bad_syntax fs t = refused code.Syntax (place_text fs (place.Line t.span.file t.span.line))
+
+-- the tokens of all files: they break, at the first token of the first part that no module spells, or a source spells them and their texts are asked
+abbrev pub OfTokens : Values → Text → List File → List Seen → Reply → Type 0
+OfTokens v table fs tokens r =
+    ((first : Seen) × BreaksAt tokens first × (r ≡ bad_syntax fs first)) ⊎ (IsSpelled tokens × OfWords v table (map (λ t. t.text) tokens) r)
+
 -- what the walk over these files comes to; no walk ends with want of memory
 abbrev pub OfReached : Values → Text → List File → (Text → Reply → Type 0) → Reached (List Seen) → Reply → Type 0
-OfReached v table fs Need (Ok tokens) r = OfWords v table (map (λ t. t.text) tokens) r
+OfReached v table fs Need (Ok tokens) r = OfTokens v table fs tokens r
 OfReached v table fs Need (Err (halt.Stop (stop.Fault f))) r = r ≡ refused f.code (place_text fs f.place)
 OfReached v table fs Need (Err (halt.Stop (stop.Limit l))) r = r ≡ limited l
 OfReached v table fs Need (Err (halt.Stop stop.NoMemory)) r = ⊥
@@ -123,6 +134,6 @@ pub record OfWalk (v : Values) (table : Text) (named : ℕ) (files : Files) (fs 
   pub included : List File
   pub walks : Walks v table named files fs included r
 
--- the replies of the command: the table is read first, then the sources in order, then what they include; then the source has to be plain, and last the table
+-- the replies of the command: the table is read first, then the sources in order, then what they include; then a source has to spell the tokens and to be plain, and last the table
 abbrev pub Means : Values → Files → Reply → Type 0
 Means v files r = OfFile v.table (λ table. OfFiles v.files files (λ fs. OfWalk v table (length fs) files fs)) (files v.table) r

@@ -6,6 +6,7 @@ ghost use Rattle.conncheck.specs.Ends.{EndsBy, EndsFor, IsNoBadWords, IsOfBytes,
 ghost use Rattle.conncheck.specs.Seen.{seen_check, seen_line, seen_word};
 ghost use Rattle.conncheck.specs.Reads.{ReadsCause, ReadsSource};
 ghost use Rattle.conncheck.specs.commands.Check as spec;
+ghost use Rattle.vl_lex.specs.Lexed.{view};
 ghost use Rattle.vl_lex.specs.Sources.{AreSmall, files_of};
 
 use crate::decide::ByEnds;
@@ -21,7 +22,8 @@ use shelf_io::{Shelf, Sink};
 use std::alloc::Global;
 use std::str;
 use vl_lex::{Source, Walked, start_walk};
-use vl_tree::{Code, Token};
+use vl_syntax::check_syntax;
+use vl_tree::{Code, Token, TokenList};
 
 pub const OPTIONS: [&str; 3] = ["--top", "--table", "--define"];
 
@@ -147,6 +149,25 @@ fn say_check<K: Sink>(
     say_report(alloc, top, &wires.names, rows.as_slice(), &mut decider, out)
 }
 
+// What is said of the tokens of all files: where they break, or what their texts come to. Linear in the tokens.
+fn say_tokens<K: Sink>(
+    alloc: Global,
+    command: &Check<'_>,
+    table: &[u8],
+    sources: &[Source<'_>],
+    tokens: &TokenList<'_>,
+    out: &mut K,
+) -> Result<Status, Stop>
+    ensures sink { SinkCause (K.faults out.old) (K.faults out.new) result }
+    ensures kind { IsOfBytes result }
+    ensures answer { EndsBy (spec.OfTokens (seen_check command.now) table.now (files_of sources.now) (map view tokens.now)) (K.taken out.old) (K.taken out.new) result }
+{
+    match check_syntax(alloc, tokens) {
+        Ok(()) => say_check(alloc, command, table, tokens.as_slice(), out),
+        Err(stop) => say_stop(alloc, sources, stop, out),
+    }
+}
+
 // The files of a list, where they stand.
 fn sources_of<'f>(alloc: Global, files: &'f [File]) -> Result<Items<Source<'f>>, NoMemory>
     ensures { IfOk result (λ sources. files_of sources ≡ files.entry.now) }
@@ -207,7 +228,7 @@ fn walk<'f, H: Shelf, K: Sink>(
         let asking = match walked {
             Ok(Walked::Asks(asking)) => asking,
             Ok(Walked::Tokens(tokens)) => {
-                return say_check(alloc, command, table, tokens.as_slice(), out);
+                return say_tokens(alloc, command, table, sources.as_slice(), &tokens, out);
             }
             Err(stop) => return say_stop(alloc, sources.as_slice(), stop, out),
         };

@@ -2,7 +2,6 @@ use Rattle.std.proofs.Common.{rules, arith, Bor, IfOk, ◌<◌, Result, ◌≡�
 use Rattle.std.proofs.lemmas.List.{length-append, map-append}
 use Rattle.bits_core.specs.declared.names.File.{File}
 use Rattle.vl_tree.specs.declared.faults.Code.TheVariants as code
-use Rattle.vl_tree.specs.declared.tokens.Token.{Token}
 use Rattle.vl_lex.specs.Lexed.{view}
 use Rattle.vl_lex.specs.Sources.{file_of, files_of}
 use Rattle.vl_lex.specs.Walk.{kept}
@@ -15,7 +14,7 @@ use Rattle.conncheck.specs.declared.status.Stop.TheVariants.{Memory}
 use Rattle.conncheck.specs.Ends.{EndsFor, StopEnds}
 use Rattle.conncheck.specs.Reply.{limited}
 use Rattle.conncheck.specs.Seen.{seen_check}
-use Rattle.conncheck.specs.commands.Check.{OfWalk, OfWords}
+use Rattle.conncheck.specs.commands.Check.{OfTokens, OfWalk}
 use Rattle.conncheck.proofs.AllowsLaws as laws
 use Rattle.conncheck.proofs.NeedLaws.{asked_is_text}
 use Rattle.conncheck.proofs.WalkLaws as walk
@@ -44,11 +43,11 @@ returns-in-Ok-Tokens-clause-answer g c = laws.told (g.H.Shelf.tells c.args.shelf
     let after = g.H.Shelf.is_steady c.includes.shelf in
     let old = g.K.Sink.taken c.includes.out in
     let w : kept fs (length named) k.defines ≡ Ok (map view c.in-Ok-Tokens.tokens) = subst (λ (x : Walked). WalksTo (Ok x) (kept fs (length named) k.defines)) c.in-Ok-Tokens.field-0-is (subst (λ (x : Result Walked Stop). WalksTo x (kept fs (length named) k.defines)) c.in-Ok-Tokens.is c.includes.invariant.walks) in
-    let ends = c.say_check.ensures.answer in
-    let P : List Token → Type 0 = λ ts. OfWords k table (map (λ t. t.text.now) ts) ends.reply in
-    let T : Option (List ℕ) → Type 0 = λ x. EndsFor steady (λ fls. OfWalk k table (length named) fls named) files x (g.K.Sink.taken c.say_check.new.out) c.say_check.result in
+    let ends = c.say_tokens.ensures.answer in
+    let P : List Source → Type 0 = λ ss. OfTokens k table (files_of ss) (map view c.in-Ok-Tokens.tokens) ends.reply in
+    let T : Option (List ℕ) → Type 0 = λ x. EndsFor steady (λ fls. OfWalk k table (length named) fls named) files x (g.K.Sink.taken c.say_tokens.new.out) c.say_tokens.result in
     subst T c.includes.invariant.taken (
-    walk.leads_to k table (length named) steady after files named fs old (g.K.Sink.taken c.say_check.new.out) c.say_check.result (laws.at_told _ _ files c.includes.invariant.leads e)
+    walk.leads_to k table (length named) steady after files named fs old (g.K.Sink.taken c.say_tokens.new.out) c.say_tokens.result (laws.at_told _ _ files c.includes.invariant.leads e)
     (record { reply = ends.reply; allowed = inl (walk.at_tokens k table (length named) files fs ends.reply c.in-Ok-Tokens.tokens w (subst P c.as_slice.ensures ends.is)); ended = ends.ended })))
 
 pub returns-in-Err-clause-answer : goal.returns-in-Err-clause-answer
