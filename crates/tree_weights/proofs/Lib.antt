@@ -1,0 +1,5 @@
+pub mod PartLaws
+pub mod SplitLaws
+pub mod SpendLaws
+pub mod Rules
+pub mod ItemLaws
