@@ -5,6 +5,7 @@ ghost use Rattle.vl_rules.specs.Modules.{read_to};
 ghost use Rattle.vl_expr.specs.Gives.{Gives};
 
 use crate::processes::{function, process, start_item};
+use sqlite_items::Boxed;
 use vl_expr::Read;
 use vl_parse_declarations::{constants_item, nets_item, ports_item};
 use vl_parse_instances::{begins_gates, gates_item, instances_item};
@@ -44,6 +45,7 @@ pub fn begins_placed(word: Word) -> bool
 
 /// A declaration in a module.
 #[tactic(auto, unfolding(vl_rules::specs::Items::declared_item, vl_rules::specs::Declarations::ports_item, vl_rules::specs::Declarations::direction, vl_rules::specs::Declarations::nets_item, vl_rules::specs::Declarations::net_word, vl_rules::specs::Items::integers_item, vl_rules::specs::Items::loop_names_item))]
+#[inline(never)]
 pub fn declared_item<'t, 'f>(reader: &Reader, tokens: &'t [Token<'f>]) -> Read<'t, 'f, Item<'f>>
     ensures { Gives (λ x. (x.0, x.1.now)) result (reads (read_to reader.now.depth) items.declared_item tokens.now) }
 {
@@ -67,6 +69,7 @@ pub fn declared_item<'t, 'f>(reader: &Reader, tokens: &'t [Token<'f>]) -> Read<'
 
 /// An `assign`, a process or a function.
 #[tactic(auto, unfolding(vl_rules::specs::Items::written_item, vl_rules::specs::Items::assigns_item, vl_rules::specs::Items::process, vl_rules::specs::Items::start_item))]
+#[inline(never)]
 pub fn written_item<'t, 'f>(reader: &Reader, tokens: &'t [Token<'f>]) -> Read<'t, 'f, Item<'f>>
     ensures { Gives (λ x. (x.0, x.1.now)) result (reads (read_to reader.now.depth) items.written_item tokens.now) }
 {
@@ -75,18 +78,22 @@ pub fn written_item<'t, 'f>(reader: &Reader, tokens: &'t [Token<'f>]) -> Read<'t
         Ok((Item::Assign(found), rest))
     } else if is_next(tokens, Word::Always) {
         let (found, rest) = process(reader, tokens)?;
+        let found = Boxed::new(reader.alloc, found)?;
         Ok((Item::Always(found), rest))
     } else if is_next(tokens, Word::Initial) {
         let (found, rest) = start_item(reader, tokens)?;
+        let found = Boxed::new(reader.alloc, found)?;
         Ok((Item::Initial(found), rest))
     } else {
         let (found, rest) = function(reader, tokens)?;
+        let found = Boxed::new(reader.alloc, found)?;
         Ok((Item::Function(found), rest))
     }
 }
 
 /// Instances or gates.
 #[tactic(auto, unfolding(vl_rules::specs::Items::placed_item, vl_rules::specs::Instances::instances_item))]
+#[inline(never)]
 pub fn placed_item<'t, 'f>(reader: &Reader, tokens: &'t [Token<'f>]) -> Read<'t, 'f, Item<'f>>
     ensures { Gives (λ x. (x.0, x.1.now)) result (reads (read_to reader.now.depth) items.placed_item tokens.now) }
 {
