@@ -30,6 +30,7 @@ pub struct Place {
     pub fault: Option<Code>,
 }
 
+/// Whether there is no fault.
 pub fn is_none(code: Option<Code>) -> bool
     ensures { result ≡ spec.is_none code }
 {

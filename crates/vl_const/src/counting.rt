@@ -29,6 +29,7 @@ pub struct Judged {
     pub fault: Option<Code>,
 }
 
+/// No counts, and no faults of counts.
 pub fn none_counted(alloc: Global) -> Counted
     ensures { result ≡ no_values }
 {

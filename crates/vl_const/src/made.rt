@@ -43,6 +43,7 @@ pub fn fit(alloc: Global, context: Size, value: &Bits) -> Result<Bits, NoMemory>
     Ok(out)
 }
 
+/// The answer of a part at the length of its context, by its sign. Refused for want of memory alone.
 pub fn brought(alloc: Global, context: Size, a: Answer) -> Result<Answer, NoMemory>
     ensures { IfOk result (λ r. r ≡ spec.brought context a) }
 {
@@ -164,6 +165,7 @@ fn chosen_bits(test: &Bits, yes: Bits, no: Bits) -> Bits
     if some_set(test) { yes } else { no }
 }
 
+/// The answer of a choice: that of the part which its test takes, and the lowest fault of all three (5.1.13).
 pub fn choice_made(
     alloc: Global,
     context: Size,
@@ -183,6 +185,7 @@ pub fn choice_made(
     })
 }
 
+/// The answer of a system function: a sign given or taken, or the ceiling of a logarithm, which is no constant of what is read.
 pub fn system_made(
     alloc: Global,
     function: SystemFunction,
@@ -205,6 +208,7 @@ pub fn system_made(
     }
 }
 
+/// No bits, before the first part of a concatenation.
 pub fn nothing(alloc: Global) -> Joined
     ensures { result ≡ spec.nothing }
 {
@@ -301,6 +305,7 @@ pub fn from_highest(
     Ok(out)
 }
 
+/// The answer of a concatenation of parts (5.1.14).
 pub fn concat_made(alloc: Global, context: Size, all: Joined) -> Result<Answer, NoMemory>
     ensures { IfOk result (λ r. r ≡ spec.concat_made context all) }
 {
@@ -330,6 +335,7 @@ fn behind(mut all: Items<bool>, bits: &[bool]) -> Result<Items<bool>, NoMemory>
     Ok(all)
 }
 
+/// The answer of a concatenation that is repeated (5.1.14).
 pub fn repeat_made(
     alloc: Global,
     count: Option<i64>,
@@ -348,6 +354,7 @@ pub fn repeat_made(
     })
 }
 
+/// The answer of a call, which is no constant: it reads, and has the faults of its arguments.
 pub fn call_made(alloc: Global, context: Size, all: Joined) -> Result<Answer, NoMemory>
     ensures { IfOk result (λ r. r ≡ spec.call_made context all) }
 {

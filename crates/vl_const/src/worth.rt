@@ -23,6 +23,7 @@ use vl_size::placed::{common, is_wide};
 use vl_size::{Const, Operands, Size, Sizing, system_function, unary_operator, whole, width_of};
 use vl_tree::{Expr, Select, lower, token_name};
 
+/// What a walk over an expression finds, and the values that are left behind it.
 pub type Found<'c, T> = Result<(T, Values<'c>), NoMemory>;
 
 /// Whether the first expression is arithmetic on more than 128 bits.

@@ -16,6 +16,7 @@ use std::alloc::Global;
 use vl_grammar::{Role, binds, is_unary, role_of};
 use vl_tree::{Expr, ExprList, Select, Token, Word, next_word, same_word, word_of};
 
+/// What reads expressions, with `expr` for those that nest (A.8.3).
 #[derive(Clone, Copy)]
 pub struct Grammar<F> {
     pub alloc: Global,

@@ -54,6 +54,7 @@ pub fn next_role(tokens: &[Token<'_>]) -> Role
     role_of_word(next_word(tokens))
 }
 
+/// A list of one thing. Refused for want of memory alone.
 pub fn only<T: Drop>(alloc: Global, item: T) -> Result<Items<T>, NoMemory>
     ensures { IfOk result (λ all. all ≡ item ∷ []) }
 {
@@ -62,6 +63,7 @@ pub fn only<T: Drop>(alloc: Global, item: T) -> Result<Items<T>, NoMemory>
     Ok(all)
 }
 
+/// An operator before its operand. Refused for want of memory alone.
 pub fn unary<'f>(alloc: Global, op: Token<'f>, operand: Expr<'f>) -> Result<Expr<'f>, AllocError>
     ensures { IfOk result (λ e. e ≡ Expr.Unary op.entry operand.entry) }
 {
@@ -71,6 +73,7 @@ pub fn unary<'f>(alloc: Global, op: Token<'f>, operand: Expr<'f>) -> Result<Expr
     })
 }
 
+/// An operator between its operands. Refused for want of memory alone.
 pub fn binary<'f>(
     alloc: Global,
     op: Token<'f>,

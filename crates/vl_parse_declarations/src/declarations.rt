@@ -208,6 +208,7 @@ pub fn ptype<'t, 'f>(reader: &Reader, tokens: &'t [Token<'f>]) -> Read<'t, 'f, O
     }
 }
 
+/// `input` or `output` (A.2.1.2).
 #[tactic(auto, unfolding(vl_rules::specs::Declarations::direction))]
 pub fn direction<'t, 'f>(reader: &Reader, tokens: &'t [Token<'f>]) -> Read<'t, 'f, Dir>
     ensures { Gives (λ x. (x.0, x.1.now)) result (reads (read_to reader.now.depth) declared.direction tokens.now) }

@@ -58,6 +58,7 @@ where
 }
 
 impl<F> Lefts<F> {
+    /// What is written: a name with its selects, or a concatenation of such (A.8.5).
     #[tactic(auto, unfolding(vl_rules::specs::Events::left_side))]
     pub fn left_side<'t, 'f>(&self, tokens: &'t [Token<'f>]) -> Read<'t, 'f, Lval<'f>>
     where
@@ -120,6 +121,7 @@ fn nested_left<'t, 'f>(
 }
 
 impl Reader {
+    /// At most one select, in brackets behind a name (A.8.3).
     #[tactic(auto, unfolding(vl_rules::specs::Events::selects, vl_rules::specs::Form::read_select))]
     pub fn selects<'t, 'f>(&self, tokens: &'t [Token<'f>]) -> Read<'t, 'f, Items<Select<'f>>>
         ensures { Gives (λ x. (x.0, x.1.now)) result (reads (read_to self.now.depth) events.selects tokens.now) }

@@ -34,6 +34,7 @@ pub trait Part<'f> {
         ensures { Gives (λ x. (x.0, x.1.now)) result (parser self.now tokens.now) };
 }
 
+/// A list of one thing. Refused for want of memory alone.
 pub fn only<T: Drop>(alloc: Global, item: T) -> Result<Items<T>, NoMemory>
     ensures { IfOk result (λ all. all ≡ item ∷ []) }
 {
