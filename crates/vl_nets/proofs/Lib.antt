@@ -1,0 +1,3 @@
+pub mod LvalLaws
+pub mod Rules
+pub mod Walks
