@@ -194,7 +194,7 @@ pub fn declare_item<'f>(
         Item::Always(_) => Ok(before),
         Item::Initial(_) => Ok(before),
         Item::Function(function) => {
-            let name = token_name(&function.get().name);
+            let name = token_name(&function.name);
             declare(alloc, Kind::Function, false, before, name)
         }
         Item::Instances(_) => Ok(before),

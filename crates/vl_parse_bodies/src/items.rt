@@ -5,7 +5,6 @@ ghost use Rattle.vl_rules.specs.Modules.{read_to};
 ghost use Rattle.vl_expr.specs.Gives.{Gives};
 
 use crate::processes::{function, process, start_item};
-use sqlite_items::Boxed;
 use vl_expr::Read;
 use vl_parse_declarations::{constants_item, nets_item, ports_item};
 use vl_parse_instances::{begins_gates, gates_item, instances_item};
@@ -78,15 +77,12 @@ pub fn written_item<'t, 'f>(reader: &Reader, tokens: &'t [Token<'f>]) -> Read<'t
         Ok((Item::Assign(found), rest))
     } else if is_next(tokens, Word::Always) {
         let (found, rest) = process(reader, tokens)?;
-        let found = Boxed::new(reader.alloc, found)?;
         Ok((Item::Always(found), rest))
     } else if is_next(tokens, Word::Initial) {
         let (found, rest) = start_item(reader, tokens)?;
-        let found = Boxed::new(reader.alloc, found)?;
         Ok((Item::Initial(found), rest))
     } else {
         let (found, rest) = function(reader, tokens)?;
-        let found = Boxed::new(reader.alloc, found)?;
         Ok((Item::Function(found), rest))
     }
 }
