@@ -87,6 +87,7 @@ fn block<'t, 'f>(reader: &Reader, tokens: &'t [Token<'f>]) -> Read<'t, 'f, Block
 
 #[cycle(item)]
 #[tactic(auto, unfolding(vl_rules::specs::Generate::item_loop))]
+#[inline(never)]
 fn item_loop<'t, 'f>(reader: &Reader, tokens: &'t [Token<'f>]) -> Read<'t, 'f, Gen<'f>>
     ensures { Gives (λ x. (x.0, x.1.now)) result (reads (read_to reader.now.depth) generate.item_loop tokens.now) }
 {
@@ -99,6 +100,7 @@ fn item_loop<'t, 'f>(reader: &Reader, tokens: &'t [Token<'f>]) -> Read<'t, 'f, G
 /// A choice between items; an `else` goes to the nearest `if`.
 #[cycle(item)]
 #[tactic(auto, unfolding(vl_rules::specs::Generate::item_choice, vl_rules::specs::Generate::block_otherwise))]
+#[inline(never)]
 fn item_choice<'t, 'f>(reader: &Reader, tokens: &'t [Token<'f>]) -> Read<'t, 'f, Gen<'f>>
     ensures { Gives (λ x. (x.0, x.1.now)) result (reads (read_to reader.now.depth) generate.item_choice tokens.now) }
 {
@@ -118,6 +120,7 @@ fn item_choice<'t, 'f>(reader: &Reader, tokens: &'t [Token<'f>]) -> Read<'t, 'f,
 
 #[cycle(item)]
 #[tactic(auto, unfolding(vl_rules::specs::Generate::item_arm, vl_rules::specs::Statements::default_word))]
+#[inline(never)]
 fn item_arm<'t, 'f>(reader: &Reader, tokens: &'t [Token<'f>]) -> Read<'t, 'f, GenArm<'f>>
     ensures { Gives (λ x. (x.0, x.1.now)) result (reads (read_to reader.now.depth) generate.item_arm tokens.now) }
 {
@@ -135,6 +138,7 @@ fn item_arm<'t, 'f>(reader: &Reader, tokens: &'t [Token<'f>]) -> Read<'t, 'f, Ge
 
 /// Any number of arms.
 #[cycle(item)]
+#[inline(never)]
 fn arm_row<'t, 'f>(reader: &Reader, tokens: &'t [Token<'f>]) -> Read<'t, 'f, Items<GenArm<'f>>>
     ensures { Gives (λ x. (x.0, x.1.now)) result (reads (read_to reader.now.depth) (spec.many generate.item_arm) tokens.now) }
 {
@@ -154,6 +158,7 @@ fn arm_row<'t, 'f>(reader: &Reader, tokens: &'t [Token<'f>]) -> Read<'t, 'f, Ite
 /// A `case` over items; one at most of its arms is a `default`.
 #[cycle(item)]
 #[tactic(auto, unfolding(vl_rules::specs::Generate::item_cases, vl_rules::specs::Generate::item_arms))]
+#[inline(never)]
 fn item_cases<'t, 'f>(reader: &Reader, tokens: &'t [Token<'f>]) -> Read<'t, 'f, Gen<'f>>
     ensures { Gives (λ x. (x.0, x.1.now)) result (reads (read_to reader.now.depth) generate.item_cases tokens.now) }
 {
