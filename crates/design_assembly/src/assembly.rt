@@ -105,9 +105,9 @@ pub fn design_of(
     ensures items { IfOk result (λ d. d.items ≡ items ++ keepers signals items inits.now) }
     ensures powerup { IfOk result (λ d. d.powerup ≡ power_list signals items inits.now) }
     ensures scope { (k : ℕ) → result ≡ Err (stop.Scope k) → IsFirstAlike scopes_apart scopes (Some k) }
-    ensures signal { (k : ℕ) → result ≡ Err (stop.Signal k) → IsFirstAlike print_apart signals (Some k) }
+    ensures signal { (k : ℕ) → result ≡ Err (stop.Signal k) → (scopes_apart scopes ≡ true) × IsFirstAlike print_apart signals (Some k) }
     ensures light { OnOk result (length (keepers signals items inits.now) ≤ left) }
-    ensures heavy { result ≡ Err stop.Heavy → left < length (keepers signals items inits.now) }
+    ensures heavy { result ≡ Err stop.Heavy → (scopes_apart scopes ≡ true) × (print_apart signals ≡ true) × (left < length (keepers signals items inits.now)) }
 {
     if let Some(at) = first_scope_alike(alloc, scopes.as_slice())? {
         return Err(AssemblyStop::Scope(at));
