@@ -85,6 +85,16 @@ def chain(arms, before=True):
     return gates, result
 
 
+def conditions(arms, before=True):
+    """An `if` chain whose conditions are bits of their own, which stand before the inputs or behind."""
+    tests, inputs = (1, arms + 1) if before else (arms + 1, 1)
+    gates = Gates(2 * arms)
+    result = gates.constant(False)
+    for arm in reversed(range(arms)):
+        result = gates.choice(tests + arm, inputs + arm, result)
+    return gates, result
+
+
 def adder(gates, a, b):
     total, carry = [], None
     for x, y in zip(a, b):
@@ -186,7 +196,7 @@ def other(name, gates, goal):
 
 SHAPES = [
     (f"{name} of {inputs:,}, selector {'before' if before else 'behind'}", shape(inputs, before), 4 * inputs)
-    for name, shape, sizes in (("multiplexer", multiplexer, (1024, 4096)), ("if chain", chain, (1024, 4096)), ("select", multiplexer, (8192,)))
+    for name, shape, sizes in (("multiplexer", multiplexer, (1024, 4096)), ("if chain", chain, (1024, 4096)), ("if chain by bits", conditions, (1024, 4096)), ("select", multiplexer, (8192,)))
     for inputs in sizes
     for before in (True, False)
 ] + [
