@@ -179,13 +179,13 @@ fn put_head(head: &LoopHead<'_>, out: &mut TreeText) {
     out.put(b"(for ");
     out.put(head.start_name.text);
     out.put(b"=");
-    show(&head.start, out);
+    show(head.start.get(), out);
     out.put(b" ");
-    show(&head.test, out);
+    show(head.test.get(), out);
     out.put(b" ");
     out.put(head.step_name.text);
     out.put(b"=");
-    show(&head.step, out);
+    show(head.step.get(), out);
     out.put(b" ")
 }
 

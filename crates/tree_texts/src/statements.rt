@@ -86,13 +86,13 @@ pub fn put_statement(statement: &Stmt<'_>, out: &mut TreeText) {
             out.put(b"(for ");
             out.put(start_name.text);
             out.put(b"=");
-            show(start, out);
+            show(start.get(), out);
             out.put(b" ");
-            show(test, out);
+            show(test.get(), out);
             out.put(b" ");
             out.put(step_name.text);
             out.put(b"=");
-            show(step, out);
+            show(step.get(), out);
             out.put(b" ");
             put_statement(body.get(), out);
             out.put(b")")
@@ -248,5 +248,5 @@ pub fn put_function(function: &Function<'_>, out: &mut TreeText) {
     }
     put_declarations(function.declarations.as_slice(), out);
     out.put(b" ");
-    put_statement(&function.body, out)
+    put_statement(function.body.get(), out)
 }

@@ -134,7 +134,7 @@ fn function_writes(function: &Function, alloc: Global, name: &[u8]) -> Result<bo
 {
     let names = own_names(function, alloc)?;
     let hidden = names.has(name);
-    let written = stmt_writes(&function.body, name);
+    let written = stmt_writes(function.body.get(), name);
     Ok(!hidden && written)
 }
 

@@ -5,6 +5,7 @@ ghost use Rattle.vl_rules.specs.Form.{reads};
 ghost use Rattle.vl_rules.specs.Modules.{read_to};
 ghost use Rattle.vl_expr.specs.Gives.{Gives};
 
+use sqlite_items::Boxed;
 use vl_expr::{Read, expect};
 use vl_parse_declarations::ptype;
 use vl_parse_parts::Reader;
@@ -49,6 +50,7 @@ pub fn function<'t, 'f>(reader: &Reader, tokens: &'t [Token<'f>]) -> Read<'t, 'f
     let (declarations, rest) = function_declarations(reader, rest)?;
     let (body, rest) = nested_statement(reader.alloc, rest, reader.depth)?;
     let (_, rest) = expect(rest, Word::EndFunction)?;
+    let body = Boxed::new(reader.alloc, body)?;
     let function = Function {
         automatic,
         result_type,

@@ -9,6 +9,7 @@ ghost use Rattle.vl_expr.specs.Gives.{Gives};
 
 use crate::reader::{AfterEquals, Reader, is_next};
 use crate::rows::Part;
+use sqlite_items::Boxed;
 use std::alloc::Global;
 use vl_expr::{Read, ReadError, expect};
 use vl_tree::{Expr, LoopHead, Token, Word};
@@ -68,11 +69,14 @@ impl Reader {
         let (_, rest) = expect(tokens, Word::LeftParen)?;
         let (start_name, rest) = expect(rest, Word::Name)?;
         let (start, rest) = after.read(rest)?;
+        let start = Boxed::new(self.alloc, start)?;
         let (_, rest) = expect(rest, Word::Semicolon)?;
         let (test, rest) = self.value(rest)?;
+        let test = Boxed::new(self.alloc, test)?;
         let (_, rest) = expect(rest, Word::Semicolon)?;
         let (step_name, rest) = expect(rest, Word::Name)?;
         let (step, rest) = after.read(rest)?;
+        let step = Boxed::new(self.alloc, step)?;
         let (_, rest) = expect(rest, Word::RightParen)?;
         let head = LoopHead {
             start_name,

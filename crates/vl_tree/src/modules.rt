@@ -177,15 +177,14 @@ pub struct GateItem<'f> {
 #[derive(Drop)]
 pub struct LoopHead<'f> {
     pub start_name: Token<'f>,
-    pub start: Expr<'f>,
-    pub test: Expr<'f>,
+    pub start: Boxed<Expr<'f>>,
+    pub test: Boxed<Expr<'f>>,
     pub step_name: Token<'f>,
-    pub step: Expr<'f>,
+    pub step: Boxed<Expr<'f>>,
 }
 
 /// An item of a module.
 #[cycle(item)]
-#[derive(Drop)]
 pub enum Item<'f> {
     Port(PortItem<'f>),
     Net(NetItem<'f>),
@@ -202,9 +201,54 @@ pub enum Item<'f> {
     Gen(Boxed<Gen<'f>>),
 }
 
+impl<'f> Drop for Item<'f> {
+    /// Lets go of an item and of those that it holds.
+    #[cycle(item)]
+    fn drop(self) {
+        match self {
+            Item::Generate(items) => let_go_all(items),
+            Item::Gen(construct) => let_go_construct(construct),
+            Item::Port(_item) => {}
+            Item::Net(_item) => {}
+            Item::Integer(_names) => {}
+            Item::GenVar(_names) => {}
+            Item::Parameter(_item) => {}
+            Item::Assign(_assignments) => {}
+            Item::Always(_process) => {}
+            Item::Initial(_body) => {}
+            Item::Function(_function) => {}
+            Item::Instances(_item) => {}
+            Item::Gates(_item) => {}
+        }
+    }
+}
+
+#[cycle(item)]
+fn let_go(boxed: Boxed<Item<'_>>) {
+    let _inner = boxed.into_inner();
+}
+
+#[cycle(item)]
+fn let_go_construct(boxed: Boxed<Gen<'_>>) {
+    let _inner = boxed.into_inner();
+}
+
+#[cycle(item)]
+fn let_go_all(list: Items<Item<'_>>) {
+    let mut list = list.into_vec();
+    while let Some(_last) = list.pop() {}
+    list.destroy_empty();
+}
+
+#[cycle(item)]
+fn let_go_arms(list: Items<GenArm<'_>>) {
+    let mut list = list.into_vec();
+    while let Some(_last) = list.pop() {}
+    list.destroy_empty();
+}
+
 /// A loop, a choice or a `case` over items.
 #[cycle(item)]
-#[derive(Drop)]
 pub enum Gen<'f> {
     For {
         head: LoopHead<'f>,
@@ -221,6 +265,28 @@ pub enum Gen<'f> {
     },
 }
 
+impl<'f> Drop for Gen<'f> {
+    /// Lets go of the construct and of its blocks.
+    #[cycle(item)]
+    fn drop(self) {
+        match self {
+            Gen::For {
+                head: _head,
+                block: _block,
+            } => {}
+            Gen::If {
+                test: _test,
+                yes: _yes,
+                no: _no,
+            } => {}
+            Gen::Case {
+                selector: _selector,
+                arms,
+            } => let_go_arms(arms),
+        }
+    }
+}
+
 /// An arm of a `case` over items.
 #[cycle(item)]
 #[derive(Drop)]
@@ -234,7 +300,6 @@ pub enum GenArm<'f> {
 
 /// What a loop, a choice or an arm over items holds.
 #[cycle(item)]
-#[derive(Drop)]
 pub enum Block<'f> {
     Begin {
         name: Option<Token<'f>>,
@@ -244,6 +309,18 @@ pub enum Block<'f> {
     Empty,
 }
 
+impl<'f> Drop for Block<'f> {
+    /// Lets go of what the block holds.
+    #[cycle(item)]
+    fn drop(self) {
+        match self {
+            Block::Begin { name: _, items } => let_go_all(items),
+            Block::Item(item) => let_go(item),
+            Block::Empty => {}
+        }
+    }
+}
+
 /// A list of items.
 pub type ItemList<'f> = Items<Item<'f>>;
 
@@ -251,12 +328,23 @@ pub type ItemList<'f> = Items<Item<'f>>;
 pub type GenArmList<'f> = Items<GenArm<'f>>;
 
 /// A module.
-#[derive(Drop)]
 pub struct Module<'f> {
     pub name: Token<'f>,
     pub parameters: Option<PdeclList<'f>>,
     pub ports: Option<Option<Ports<'f>>>,
     pub items: ItemList<'f>,
+}
+
+impl<'f> Drop for Module<'f> {
+    /// Lets go of a module and of what it holds.
+    fn drop(self) {
+        let Module {
+            name: _,
+            parameters: _parameters,
+            ports: _ports,
+            items: _items,
+        } = self;
+    }
 }
 
 /// A source: its modules.

@@ -99,7 +99,6 @@ pub enum AssignWord {
 
 /// A statement.
 #[cycle(stmt)]
-#[derive(Drop)]
 pub enum Stmt<'f> {
     Empty,
     Begin {
@@ -118,10 +117,10 @@ pub enum Stmt<'f> {
     },
     For {
         start_name: Token<'f>,
-        start: Expr<'f>,
-        test: Expr<'f>,
+        start: Boxed<Expr<'f>>,
+        test: Boxed<Expr<'f>>,
         step_name: Token<'f>,
-        step: Expr<'f>,
+        step: Boxed<Expr<'f>>,
         body: Boxed<Stmt<'f>>,
     },
     Assign {
@@ -129,6 +128,64 @@ pub enum Stmt<'f> {
         word: AssignWord,
         right: Expr<'f>,
     },
+}
+
+impl<'f> Drop for Stmt<'f> {
+    /// Lets go of a statement and of those that it holds.
+    #[cycle(stmt)]
+    fn drop(self) {
+        match self {
+            Stmt::Empty => {}
+            Stmt::Begin { name: _, body } => let_go_all(body),
+            Stmt::If {
+                test: _test,
+                yes,
+                no,
+            } => {
+                let_go(yes);
+                if let Some(no) = no {
+                    let_go(no);
+                }
+            }
+            Stmt::Case {
+                word: _,
+                selector: _selector,
+                items,
+            } => let_go_arms(items),
+            Stmt::For {
+                start_name: _,
+                start: _start,
+                test: _test,
+                step_name: _,
+                step: _step,
+                body,
+            } => let_go(body),
+            Stmt::Assign {
+                left: _left,
+                word: _,
+                right: _right,
+            } => {}
+        }
+    }
+}
+
+#[cycle(stmt)]
+fn let_go(boxed: Boxed<Stmt<'_>>) {
+    let _inner = boxed.into_inner();
+}
+
+#[cycle(stmt)]
+fn let_go_all(list: Items<Stmt<'_>>) {
+    let mut list = list.into_vec();
+    while let Some(_last) = list.pop() {}
+    list.destroy_empty();
+}
+
+#[cycle(stmt)]
+fn let_go_arms(list: Items<Citem<'_>>) {
+    let mut list = list.into_vec();
+    while let Some(_last) = list.pop() {}
+    list.destroy_empty();
 }
 
 /// An arm of a `case` statement.
@@ -189,5 +246,5 @@ pub struct Function<'f> {
     pub name: Token<'f>,
     pub inputs: Option<FunctionInputList<'f>>,
     pub declarations: FdeclList<'f>,
-    pub body: Stmt<'f>,
+    pub body: Boxed<Stmt<'f>>,
 }
