@@ -1,0 +1,4 @@
+pub mod Called
+pub mod Callers
+pub mod Reaching
+pub mod Seen
