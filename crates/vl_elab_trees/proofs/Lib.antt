@@ -1,0 +1,11 @@
+pub mod ArgumentLaws
+pub mod BuiltLaws
+pub mod CallLaws
+pub mod KnownLaws
+pub mod ListLaws
+pub mod MadeLaws
+pub mod RestLaws
+pub mod Rules
+pub mod SmallLaws
+pub mod StepLaws
+pub mod WholeLaws
