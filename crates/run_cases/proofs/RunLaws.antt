@@ -1,26 +1,17 @@
 -- What is run is formed and short.
-use Rattle.std.proofs.Common.{◌≡◌, ℕ, zero, suc, ◌++◌, ◌<◌, ◌+◌, ◌≤◌, ◌==◌, nat_le, get_or, Bool, true, false, ◌&&◌, List, [], ◌∷◌, length, map, refl, sym, subst, ap, ◌∙◌, ℤ, arith, All, Option, Some, None}
+use Rattle.std.proofs.Common.{◌≡◌, ℕ, ◌≤◌, nat_le, get_or, Bool, true, false, ◌&&◌, List, [], ◌∷◌, length, map, subst, ap, arith, All}
 use Rattle.std.specs.List.{list_all}
 use Rattle.std.proofs.lemmas.Bool.Decides.{nat_tests}
-use Rattle.std.proofs.lemmas.List.Elements.{All-nil, All-cons, All-head, All-tail}
+use Rattle.std.proofs.lemmas.List.Elements.{All-nil, All-cons}
 use Rattle.std.proofs.lemmas.Bool.{false≢true}
-use Rattle.design_core.specs.declared.tree.DBase.{DBase}
 use Rattle.design_core.specs.declared.tree.DExpr.{DExpr}
 use Rattle.design_core.specs.declared.tree.DLeft.{DLeft}
-use Rattle.design_core.specs.declared.tree.DLeft.TheVariants as lefts
 use Rattle.design_core.specs.declared.tree.DStmt.{DStmt}
 use Rattle.design_core.specs.declared.tree.DStmt.TheVariants as stmts
-use Rattle.design_core.specs.declared.tree.DMatch.{DMatch, out-DMatch}
-use Rattle.design_core.specs.declared.tree.DArm.{DArm, out-DArm, roll-DArm, out-roll-DArm}
-use Rattle.design_core.specs.declared.tree.DNode.{DNode}
-use Rattle.design_core.specs.declared.tree.DFunction.{DFunction}
-use Rattle.design_core.specs.declared.tree.DLeft.TheOpen.{DArm-F}
-use Rattle.design_core.specs.declared.tree.DNode.TheVariants as node
-use Rattle.design_core.specs.Terms.{lengths}
-use Rattle.design_core.specs.Formed.{Routine, has_length, of_kind, arguments_fit, sized_function, Sized, Place, Body, Branch, Choice, IsFormedOf, base_fits, is_vector, is_narrow, free_fits, sized_expr, sized_left, sized_stmt, sized_match, sized_arm}
-use Rattle.design_core.proofs.FormedLaws.{sized_length, sized_whole, sized_part, sized_at, sized_left_concat, sized_block, sized_write, sized_if, sized_turns, sized_case, sized_case_else, sized_arm_is, sized_match_is, sized_function_is, sized_call}
-use Rattle.design_core.proofs.BoolLaws.{true_both, both_true}
-use Rattle.formed_trees.specs.Trees.{is_formed, IsMade, is_body, IsBody}
+use Rattle.design_core.specs.Formed.{Body, IsFormed, IsFormedLeft, IsFormedOf, sized_expr, sized_left}
+use Rattle.design_core.proofs.FormedLaws.{sized_write}
+use Rattle.design_core.proofs.BoolLaws.{both_true}
+use Rattle.formed_trees.specs.Trees.{is_body}
 use Rattle.stmt_exec.specs.State.{IsEnv}
 use Rattle.stmt_exec.specs.Runs.{IsRunnable}
 use Rattle.value_domain.specs.Meaning.{Meaning}
@@ -46,3 +37,17 @@ is_env m d now next all most same = record {
 pub runnable : (rows : List (List Bool)) (s : DStmt) → IsStmt rows s → IsRunnable (map length rows) [] false s
 unfolding is_body IsFormedOf
 runnable rows s h = record { kinds = any_kind; formed = h; blocks = λ e b k. absurd (false≢true e) }
+
+-- the parts of an assignment that is formed
+module _ (rows : List (List Bool)) (s : DStmt) (l : DLeft) (e : DExpr) (blocking : Bool) (is : s ≡ stmts.Write l e blocking) (formed : IsStmt rows s) where
+  write_formed : ((sized_left (map length rows) l).formed [] false && (sized_expr (map length rows) e).formed [] && nat_le (sized_left (map length rows) l).length (sized_expr (map length rows) e).length && any_kind blocking) ≡ true
+  unfolding is_body
+  write_formed = subst (λ (x : Body). x.formed [] false any_kind ≡ true) (sized_write (map length rows) s l e blocking is) formed
+
+  pub write_left : IsFormedLeft (map length rows) [] false l
+  unfolding IsFormedLeft
+  write_left = (both_true _ _ (both_true _ _ (both_true _ _ write_formed).0).0).0
+
+  pub write_right : IsFormed (map length rows) [] e
+  unfolding IsFormed
+  write_right = (both_true _ _ (both_true _ _ (both_true _ _ write_formed).0).0).1

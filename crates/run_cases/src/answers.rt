@@ -5,12 +5,13 @@ ghost use Rattle.run_cases.specs.Trees.{IsExpr, IsStmt};
 use crate::machine::Machine;
 use crate::numbers::{decimal, value};
 use crate::steps::step;
+use crate::ways::{Way, env_by, read_way};
 use crate::words::read;
-use bits_core::{Bits, Duplicate, Items, NoMemory};
+use bits_core::{Bits, NoMemory};
 use case_lines::Cases;
 use design_core::{DExpr, DStmt};
 use std::alloc::{AllocError, Global};
-use stmt_exec::{Env, eval, exec};
+use stmt_exec::{Env, eval};
 use value_domain::BitsDomain;
 
 // `LENGTH:HEX` or `LENGTH:HEX*COUNT`.
@@ -125,22 +126,6 @@ fn are_short(signals: &[Bits]) -> bool
     signals.iter().all(|bits| is_short(bits))
 }
 
-// The signals after a statement.
-fn env_of(alloc: Global, s: &DStmt, signals: Vec<Bits>) -> Result<Env<Bits>, NoMemory>
-    requires body { IsStmt signals.items s.now }
-    requires short { list_all (λ (bits : List Bool). nat_le (length bits) 65536) signals.items ≡ true }
-{
-    let now = Items::of(signals);
-    let next = now.copy(alloc)?;
-    let mut env = Env {
-        now: now.into_vec(),
-        next: next.into_vec(),
-    };
-    let mut domain = BitsDomain::new(alloc);
-    exec(alloc, &mut domain, s, &mut env)?;
-    Ok(env)
-}
-
 fn put_first(out: &mut Vec<u8>, signals: &[Bits]) -> Result<(), AllocError> {
     let mut first = true;
     for bits in signals.iter().take(8) {
@@ -158,13 +143,16 @@ fn put_env(
     out: &mut Vec<u8>,
     s: &DStmt,
     signals: Vec<Bits>,
+    way: Way,
 ) -> Result<bool, NoMemory>
     requires { IsStmt signals.items s.now }
 {
     if !are_short(signals.as_slice()) {
         return Ok(false);
     }
-    let env = env_of(alloc, s, signals)?;
+    let Some(env) = env_by(alloc, s, signals, way)? else {
+        return Ok(false);
+    };
     put_first(out, env.now.as_slice())?;
     out.extend_from_slice(b" / ")?;
     put_first(out, env.next.as_slice())?;
@@ -202,24 +190,38 @@ fn put_expr(alloc: Global, out: &mut Vec<u8>, mut machine: Machine) -> Result<bo
     Ok(true)
 }
 
-fn put_stmt(alloc: Global, out: &mut Vec<u8>, mut machine: Machine) -> Result<bool, NoMemory> {
+fn put_stmt(
+    alloc: Global,
+    out: &mut Vec<u8>,
+    mut machine: Machine,
+    way: Way,
+) -> Result<bool, NoMemory> {
     let Some(s) = machine.pop_stmt() else {
         return Ok(false);
     };
     if !machine.is_empty() {
         return Ok(false);
     }
-    put_env(alloc, out, &s, machine.signals)
+    put_env(alloc, out, &s, machine.signals, way)
 }
 
-fn put_answer(alloc: Global, out: &mut Vec<u8>, line: &str) -> Result<bool, NoMemory> {
+fn put_run(alloc: Global, out: &mut Vec<u8>, line: &str, way: Way) -> Result<bool, NoMemory> {
     let Some(machine) = run(alloc, line)? else {
         return Ok(false);
     };
-    if machine.has_stmt() {
-        put_stmt(alloc, out, machine)
-    } else {
-        put_expr(alloc, out, machine)
+    match way {
+        Way::Plain if !machine.has_stmt() => put_expr(alloc, out, machine),
+        way => put_stmt(alloc, out, machine, way),
+    }
+}
+
+fn put_answer(alloc: Global, out: &mut Vec<u8>, line: &str) -> Result<bool, NoMemory> {
+    let Some((line, text)) = line.rsplit_once(" @ ") else {
+        return put_run(alloc, out, line, Way::Plain);
+    };
+    match read_way(alloc, text.trim())? {
+        None => Ok(false),
+        Some(way) => put_run(alloc, out, line, way),
     }
 }
 

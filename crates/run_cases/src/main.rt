@@ -2,6 +2,7 @@
 //!
 //! A line is the signals, `;`, and the words of an expression or of a statement in postfix order.
 //! The words are `read`'s in words.rt; a left side that stands by itself is written by `b=` or `n=`.
+//! Behind ` @ ` at the end stand the bits of a guard, under which the statement is run, or `at_once` for an assignment that is seen at once, as an assign.
 //! The answer is the value of the expression, or the first signals after the statement; `?` where the line is no case.
 #![tactic(auto)]
 
@@ -10,6 +11,7 @@ mod machine;
 mod numbers;
 mod runs;
 mod steps;
+mod ways;
 mod words;
 
 use answers::Runs;
