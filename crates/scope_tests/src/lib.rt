@@ -5,3 +5,5 @@
 mod items;
 #[cfg(test)]
 mod names;
+#[cfg(test)]
+mod signals;

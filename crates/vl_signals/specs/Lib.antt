@@ -1,0 +1,4 @@
+pub mod Laws
+pub mod Signals
+pub mod Sites
+pub mod Sought
