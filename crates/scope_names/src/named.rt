@@ -1,6 +1,6 @@
 ghost use Rattle.std.specs.Prelude.{◌≡◌, map, IfOk};
 ghost use Rattle.vl_items.specs.Declarations.{declare_parts};
-ghost use Rattle.vl_items.specs.Parts.{part, parts_of};
+ghost use Rattle.vl_items.specs.Parts.{gen_part, part, parts_of};
 ghost use Rattle.vl_names.specs.Names.{listed};
 ghost use Rattle.vl_names.specs.Outward.{all, is_known as known};
 ghost use Rattle.vl_names.specs.Tables.{table};
@@ -14,7 +14,7 @@ use vl_items::{begin, declare, declare_head, declare_item, declare_items};
 use vl_modules::stub_items;
 use vl_names::{Index, Kind, Outside, Table};
 use vl_nets::use_items;
-use vl_tree::{Item, Module};
+use vl_tree::{Gen, Item, Module};
 
 /// The names that an item declares, and the nets among those that it uses.
 fn with_item<'f>(
@@ -40,18 +40,33 @@ fn with_named<'f>(
 {
     match item {
         Item::Generate(items) => all_named(items.as_slice(), alloc, outside, before),
-        Item::Port(_)
-        | Item::Net(_)
-        | Item::Integer(_)
-        | Item::GenVar(_)
-        | Item::Parameter(_)
-        | Item::Assign(_)
-        | Item::Always(_)
-        | Item::Initial(_)
-        | Item::Function(_)
-        | Item::Instances(_)
-        | Item::Gates(_)
-        | Item::Gen(_) => with_item(item, alloc, outside, before),
+        Item::Port(_) => with_item(item, alloc, outside, before),
+        Item::Net(_) => with_item(item, alloc, outside, before),
+        Item::Integer(_) => with_item(item, alloc, outside, before),
+        Item::GenVar(_) => with_item(item, alloc, outside, before),
+        Item::Parameter(_) => with_item(item, alloc, outside, before),
+        Item::Assign(_) => with_item(item, alloc, outside, before),
+        Item::Always(_) => with_item(item, alloc, outside, before),
+        Item::Initial(_) => with_item(item, alloc, outside, before),
+        Item::Function(_) => with_item(item, alloc, outside, before),
+        Item::Instances(_) => with_item(item, alloc, outside, before),
+        Item::Gates(_) => with_item(item, alloc, outside, before),
+        Item::Gen(generate) => after_gen(generate.get(), outside, before),
+    }
+}
+
+/// A generate construct declares nothing in the scope round it, and its nets are those of its blocks.
+fn after_gen<'f>(
+    generate: &Gen<'f>,
+    outside: Outside<'_, 'f>,
+    before: Table<'f>,
+) -> Result<Table<'f>, NoMemory>
+    ensures { IfOk result (λ r. table r ≡ spec.named_part (known (table outside.entry.variable.now) (all outside.entry.scopes.now) outside.entry.outer) (table before.entry) (gen_part generate.now)) }
+{
+    match generate {
+        Gen::For { .. } => Ok(before),
+        Gen::If { .. } => Ok(before),
+        Gen::Case { .. } => Ok(before),
     }
 }
 
