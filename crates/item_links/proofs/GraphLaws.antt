@@ -1,15 +1,14 @@
 -- The graph of what items read and drive.
-use Rattle.std.proofs.Common.{◌≡◌, ℕ, zero, suc, ◌+◌, ◌<◌, ◌≤◌, Bool, true, false, List, [], ◌∷◌, ◌++◌, length, map, take, get_or, sum, inl, inr, refl, sym, ◌∙◌, ap, subst, Option, Some, None, arith}
+use Rattle.std.proofs.Common.{◌≡◌, ℕ, zero, suc, ◌+◌, ◌<◌, ◌≤◌, Bool, true, List, [], ◌∷◌, ◌++◌, length, map, get_or, sum, inl, inr, refl, sym, ◌∙◌, ap, subst, Option, Some, arith}
 use Rattle.std.specs.Prelude.{All}
 use Rattle.std.proofs.lemmas.Bool.{cases_eq}
-use Rattle.std.proofs.lemmas.List.{length-map, get_or-map, get_or_push, take_all}
+use Rattle.std.proofs.lemmas.List.{get_or-map, get_or_push, take_all}
 use Rattle.design_core.specs.declared.place.BitRef.{BitRef}
 use Rattle.design_core.specs.declared.items.Item.{Item}
 use Rattle.design_core.specs.declared.signals.Signal.{Signal}
 use Rattle.design_core.specs.Cells.{Cell, In}
 use Rattle.design_core.specs.Parts.{item_cell}
 use Rattle.design_core.specs.Numbers.{is_bit, number, idle}
-use Rattle.design_core.specs.Wellformed.{signal_lengths}
 use Rattle.item_order.specs.declared.spans.Span.{Span}
 use Rattle.item_order.specs.Spans.{driver_in, AreNamed, AreWithin}
 use Rattle.item_order.specs.Circles.{graph}
@@ -17,7 +16,7 @@ use Rattle.item_links.specs.Numbered.{AreSpansOf, AreStarts}
 use Rattle.item_links.specs.Noted.{AreNoted, all_drives, cell_in}
 use Rattle.item_links.specs.Graphs.{IsGraphOf}
 use Rattle.item_links.proofs.SpanLaws.{no_spans}
-use Rattle.item_links.proofs.NotedLaws.{drivers_are, idle_past}
+use Rattle.item_links.proofs.NotedLaws.{idle_past}
 
 pub is_graph : (lengths : List ℕ) (cells : List (Cell BitRef)) (reads : List (List Span)) (drivers : List (Option ℕ)) (twice : List Bool)
     → ((i : ℕ) → AreSpansOf lengths (cell_in cells i).reads (get_or reads i []))

@@ -1,22 +1,21 @@
 -- Items are noted as drivers, piece by piece.
-use Rattle.std.proofs.Common.{◌≡◌, ℕ, zero, suc, ◌+◌, ◌<◌, ◌≤◌, Bool, true, false, ◌&&◌, ◌||◌, ◌⊎◌, List, [], ◌∷◌, ◌++◌, length, take, get_or, set, replicate, sum, inl, inr, refl, sym, ◌∙◌, ap, ap₂, subst, nat_lt, nat_le, if◌then◌else◌, Option, Some, None, arith}
+use Rattle.std.proofs.Common.{◌≡◌, ℕ, zero, suc, ◌+◌, ◌<◌, ◌≤◌, Bool, true, false, ◌&&◌, ◌||◌, ◌⊎◌, List, [], ◌∷◌, length, get_or, set, replicate, inl, inr, refl, sym, ◌∙◌, ap, subst, nat_lt, nat_le, Option, Some, None, arith}
 use Rattle.std.specs.Prelude.{◌==◌}
 use Rattle.std.proofs.lemmas.Bool.{eqb-true, cases_eq}
 use Rattle.std.proofs.lemmas.Bool.Decides.{nat_tests}
 use Rattle.std.proofs.lemmas.List.{get_or-set_same, get_or-set_other}
 use Rattle.design_core.specs.declared.place.BitRef.{BitRef}
-use Rattle.design_core.specs.Core.{bit}
 use Rattle.design_core.specs.Cells.{Cell}
 use Rattle.design_core.specs.Numbers.{is_bit, number, idle}
 use Rattle.design_core.proofs.BoolLaws.{both_true, true_both, or_cases, or_left, or_right, either, not_both}
 use Rattle.design_laws.proofs.NumberLaws.{number_once}
 use Rattle.item_bits.specs.declared.pieces.Piece.{Piece}
-use Rattle.item_bits.specs.Pieces.{has, some_has}
+use Rattle.item_bits.specs.Pieces.{has}
 use Rattle.item_order.specs.declared.spans.Span.{Span}
 use Rattle.item_order.specs.Spans.{holds, driver_in}
 use Rattle.item_links.specs.Numbered.{AreStarts, AreBits}
-use Rattle.item_links.specs.Noted.{cell_in, IsDouble, IsFirstSignal, all_drives, first_drives, flag, AreNoted, IsTaken, IsMarked}
-use Rattle.item_links.proofs.SpanLaws.{below_is, is_below, same_number, signal_below, in_piece, span_has, span_only}
+use Rattle.item_links.specs.Noted.{cell_in, IsDouble, IsFirstSignal, all_drives, first_drives, flag, AreNoted, IsMarked}
+use Rattle.item_links.proofs.SpanLaws.{same_number, in_piece, span_has, span_only}
 
 -- what is noted besides: this item for these bits
 abbrev pub and_also : (ℕ → BitRef → Bool) → ℕ → (BitRef → Bool) → ℕ → BitRef → Bool

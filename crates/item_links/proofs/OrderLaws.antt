@@ -1,15 +1,13 @@
 -- What the search over numbers finds holds of the cells.
-use Rattle.std.proofs.Common.{◌≡◌, ℕ, zero, suc, ◌+◌, ◌-◌, ◌<◌, ◌≤◌, Bool, true, false, ◌||◌, ◌⊎◌, inl, inr, List, [], ◌∷◌, length, map, take, get_or, sum, refl, sym, ◌∙◌, ap, subst, Option, Some, None, MatchOption, arith}
+use Rattle.std.proofs.Common.{◌≡◌, ℕ, ◌+◌, ◌-◌, ◌<◌, ◌≤◌, Bool, true, false, inl, inr, List, [], ◌∷◌, length, get_or, refl, sym, ◌∙◌, ap, subst, Option, Some, None, MatchOption, arith}
 use Rattle.std.proofs.lemmas.Bool.{cases_eq}
-use Rattle.std.proofs.lemmas.Bool.Decides.{nat_tests}
 use Rattle.design_core.specs.declared.place.BitRef.{BitRef}
 use Rattle.design_core.specs.Core.{bit}
-use Rattle.design_core.specs.Cells.{Cell, In, driven, IsFirst, IsOrdered}
+use Rattle.design_core.specs.Cells.{Cell, In, driven, IsOrdered}
 use Rattle.design_core.specs.Numbers.{is_bit, number, first_number, chosen_cells}
 use Rattle.design_core.proofs.BoolLaws.{either, false_or, not_both}
 use Rattle.design_laws.proofs.NumberLaws.{number_once}
 use Rattle.item_order.specs.Circles as g
-use Rattle.item_order.specs.Spans.{driver_in}
 use Rattle.item_links.specs.Graphs.{IsGraphOf}
 use Rattle.item_links.specs.Noted.{cell_in, IsFirstSignal}
 use Rattle.item_links.specs.Orders.{Feeds, Leads, at_once, through, IsOnCircle, IsOrderOf, told, is_turned}

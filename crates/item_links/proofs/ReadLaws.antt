@@ -1,5 +1,5 @@
 -- What items read, without the bits that a combinational process drives itself.
-use Rattle.std.proofs.Common.{◌≡◌, ℕ, zero, suc, ◌+◌, ◌-◌, ◌<◌, ◌≤◌, ◌^◌, Bool, true, false, not, ◌&&◌, ◌||◌, ◌⊎◌, List, [], ◌∷◌, ◌++◌, length, take, get_or, set, sum, inl, inr, refl, sym, ◌∙◌, ap, ap₂, subst, nat_lt, nat_le, Option, Some, None, arith}
+use Rattle.std.proofs.Common.{◌≡◌, ℕ, ◌+◌, ◌<◌, ◌≤◌, ◌^◌, Bool, true, false, not, ◌&&◌, ◌||◌, List, length, get_or, set, sum, inl, inr, refl, sym, ◌∙◌, ap, subst, nat_lt, nat_le, Option, Some, None, arith}
 use Rattle.std.specs.Prelude.{◌==◌}
 use Rattle.std.proofs.lemmas.Bool.{eqb-true, cases_eq}
 use Rattle.std.proofs.lemmas.Bool.Decides.{nat_tests}
@@ -9,24 +9,23 @@ use Rattle.design_core.specs.declared.items.Item.{Item}
 use Rattle.design_core.specs.declared.items.Item.TheVariants as kinds
 use Rattle.design_core.specs.declared.items.DReset.{DReset}
 use Rattle.design_core.specs.declared.tree.DStmt.{DStmt}
-use Rattle.design_core.specs.Core.{bit, same_bit}
-use Rattle.design_core.specs.Cells.{Cell, In}
+use Rattle.design_core.specs.Core.{same_bit}
 use Rattle.design_core.specs.Items.{CoreItem, assign, comb, clocked, reset_by, cell_of}
 use Rattle.design_core.specs.Parts.{item_of, clocked_of}
 use Rattle.design_core.specs.Numbers.{is_bit, number}
-use Rattle.design_core.proofs.BoolLaws.{both_true, true_both, or_cases, or_left, or_right, either, not_both}
+use Rattle.design_core.proofs.BoolLaws.{both_true, true_both, or_cases, either, not_both}
 use Rattle.design_laws.specs.Kinds.{IsOverBits}
 use Rattle.design_laws.proofs.NumberLaws.{number_once, number_below}
 use Rattle.item_bits.specs.declared.pieces.Piece.{Piece}
-use Rattle.item_bits.specs.Pieces.{has, some_has}
+use Rattle.item_bits.specs.Pieces.{has}
 use Rattle.item_bits.specs.Items.{asked_within, HasLowReset}
 use Rattle.item_order.specs.declared.spans.Span.{Span}
 use Rattle.item_order.specs.Spans.{holds, some_holds, driver_in}
 use Rattle.item_links.specs.Numbered.{AreStarts, AreBits, AreSpansOf}
-use Rattle.item_links.specs.Noted.{AreNoted, all_drives}
+use Rattle.item_links.specs.Noted.{AreNoted}
 use Rattle.item_links.specs.Owned.{is_comb, is_same, owns, AreStamped, IsOwned}
-use Rattle.item_links.proofs.SpanLaws.{below_is, most_is, is_below, is_most, same_number, signal_below, in_piece, span_has, span_only, more_spans, same_spans, some_push}
-use Rattle.item_links.proofs.NotedLaws.{drivers_are, no_piece}
+use Rattle.item_links.proofs.SpanLaws.{below_is, same_number, in_piece, span_has, span_only, more_spans, same_spans}
+use Rattle.item_links.proofs.NotedLaws.{no_piece}
 
 -- of a combinational process what it asks for without what it drives, of any other item all of it
 pub reads_comb : (size : ℕ → ℕ) (i : Item) → is_comb i ≡ true → (b : BitRef) → (asked_within (item_of size i) b && not ((cell_of (item_of size i)).drives b)) ≡ (cell_of (item_of size i)).reads b

@@ -1,5 +1,5 @@
 -- The graph of what items read and drive, by the numbers of bits.
-use Rattle.std.specs.Prelude.{◌≡◌, ℕ, true, List, Option, Some}
+use Rattle.std.specs.Prelude.{◌≡◌, ℕ, true, List, Some}
 use Rattle.design_core.specs.declared.place.BitRef.{BitRef}
 use Rattle.design_core.specs.Cells.{Cell}
 use Rattle.design_core.specs.Numbers.{is_bit, number}

@@ -1,5 +1,5 @@
 -- Bits by their numbers: where each signal begins, and pieces of signals as spans of numbers.
-use Rattle.std.specs.Prelude.{◌≡◌, ℕ, ◌+◌, ◌<◌, ◌≤◌, Bool, true, List, All, length, sum, slice_index_or}
+use Rattle.std.specs.Prelude.{◌≡◌, ℕ, ◌+◌, ◌<◌, ◌≤◌, Bool, true, List, All, length, slice_index_or}
 use Rattle.design_core.specs.declared.place.BitRef.{BitRef}
 use Rattle.design_core.specs.Numbers.{is_bit, number, first_number}
 use Rattle.item_bits.specs.declared.pieces.Piece.{Piece}

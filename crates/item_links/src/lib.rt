@@ -10,3 +10,4 @@ mod reading;
 pub use lining::{LineStop, line_up};
 pub use linking::{LinkStop, link};
 pub use numbers::{span_of, starts};
+pub use reading::{is_own, stamp};

@@ -31,7 +31,7 @@ fn put_span(all: &mut Vec<Span>, from: u32, to: u32) -> Result<(), NoMemory>
 }
 
 /// Whether the item drives a bit.
-fn is_own(drivers: &[Option<u32>], item: u32, bit: u32) -> bool
+pub fn is_own(drivers: &[Option<u32>], item: u32, bit: u32) -> bool
     requires { bit < length drivers.now }
     ensures { result ≡ owns drivers.now item bit }
 {
@@ -64,7 +64,7 @@ fn put_others(
 }
 
 /// The signals of some pieces get an item's stamp.
-fn stamp(stamps: &mut [u32], pieces: &[Piece], item: u32)
+pub fn stamp(stamps: &mut [u32], pieces: &[Piece], item: u32)
     ensures { AreStamped stamps.new (some_has pieces.now) item }
 {
     for at in 0..pieces.len() {

@@ -1,6 +1,6 @@
-use Rattle.std.proofs.Common.{◌≡◌, ℕ, ◌≤◌, Bool, List, Option, None, false, length, map, replicate, sum, sym, ◌∙◌, ap, subst, arith}
+use Rattle.std.proofs.Common.{◌≡◌, ℕ, ◌≤◌, Bool, List, Option, length, map, sym, ap, subst, arith}
 use Rattle.std.specs.Vec.{with_items}
-use Rattle.std.proofs.lemmas.List.{length-map, length-replicate, with_items_is}
+use Rattle.std.proofs.lemmas.List.{length-map, with_items_is}
 use Rattle.design_core.specs.Parts.{item_cell}
 use Rattle.design_core.specs.Wellformed.{signal_lengths}
 use Rattle.item_links.specs.Noted.{AreNoted, all_drives}

@@ -1,4 +1,4 @@
-use Rattle.std.proofs.Common.{◌≡◌, ◌+◌, ◌<◌, Bool, true, false, length, set, subst, arith}
+use Rattle.std.proofs.Common.{Bool, true, false, set, subst, arith}
 use Rattle.item_links.specs.Noted.{IsMarked}
 use Rattle.item_links.proofs.NotedLaws.{flagged, piece_noted, unflagged}
 use Rattle.item_links.proofs.drivers.note_piece.Goals as goal

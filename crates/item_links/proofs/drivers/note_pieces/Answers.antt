@@ -1,4 +1,4 @@
-use Rattle.std.proofs.Common.{◌≡◌, ℕ, ◌+◌, ◌<◌, ◌≤◌, List, length, take, get_or, subst, arith}
+use Rattle.std.proofs.Common.{◌+◌, List, length, take, get_or, subst, arith}
 use Rattle.std.proofs.lemmas.List.{take_all}
 use Rattle.item_bits.specs.declared.pieces.Piece.{Piece}
 use Rattle.item_bits.specs.Pieces.{has, some_has}

@@ -1,4 +1,4 @@
-use Rattle.std.proofs.Common.{◌≡◌, ℕ, true, false, Some, None, Err, sym, ◌∙◌, ap, subst}
+use Rattle.std.proofs.Common.{◌≡◌, true, false, sym, ◌∙◌, ap, subst}
 use Rattle.design_core.specs.declared.place.BitRef.{BitRef}
 use Rattle.design_core.specs.Numbers.{is_bit, number}
 use Rattle.design_core.specs.Wellformed.{signal_lengths}

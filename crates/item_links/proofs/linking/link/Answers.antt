@@ -1,10 +1,8 @@
-use Rattle.std.proofs.Common.{◌≡◌, ℕ, ◌<◌, Bool, true, false, List, Option, length, map, sum, sym, ◌∙◌, ap, subst, arith}
+use Rattle.std.proofs.Common.{◌≡◌, ℕ, ◌<◌, true, false, List, Option, length, map, sym, ◌∙◌, ap, subst, arith}
 use Rattle.std.proofs.lemmas.List.{length-map}
-use Rattle.design_core.specs.declared.place.BitRef.{BitRef}
-use Rattle.design_core.specs.Numbers.{is_bit, number}
 use Rattle.design_core.specs.Parts.{item_cell}
 use Rattle.design_core.specs.Wellformed.{signal_lengths}
-use Rattle.item_order.specs.Spans.{AreWithin, driver_in}
+use Rattle.item_order.specs.Spans.{AreWithin}
 use Rattle.item_links.specs.Noted.{IsDouble, IsFirstSignal, all_drives, flag}
 use Rattle.item_links.specs.Owned.{IsOwned}
 use Rattle.item_links.proofs.NotedLaws.{drivers_are, first_double}

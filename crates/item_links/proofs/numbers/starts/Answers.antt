@@ -1,4 +1,4 @@
-use Rattle.std.proofs.Common.{◌≡◌, ℕ, ◌+◌, ◌<◌, ◌≤◌, List, [], ◌∷◌, ◌++◌, length, take, get_or, sum, sym, ◌∙◌, ap, ◌^◌, arith, rules, Fits, w32}
+use Rattle.std.proofs.Common.{◌≡◌, ◌+◌, ◌<◌, length, get_or, sym, ◌∙◌, ap, ◌^◌, arith, rules}
 use Rattle.std.proofs.lemmas.List.{length-map, get_or-map, length_push}
 use Rattle.std.proofs.lemmas.List.Sums.{sum_by_more, sum_by_more_le}
 use Rattle.design_core.specs.declared.signals.Signal.{Signal}

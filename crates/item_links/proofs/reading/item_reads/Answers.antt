@@ -1,5 +1,4 @@
-use Rattle.std.proofs.Common.{◌≡◌, ℕ, ◌+◌, ◌-◌, ◌<◌, ◌≤◌, ◌^◌, ◌&&◌, true, false, not, List, length, sum, sym, ◌∙◌, ap, subst, arith}
-use Rattle.design_core.specs.declared.place.BitRef.{BitRef}
+use Rattle.std.proofs.Common.{◌≡◌, ◌-◌, ◌^◌, ◌&&◌, true, false, not, List, length, sum, sym, ◌∙◌, ap, subst, arith}
 use Rattle.design_core.specs.Parts.{item_cell, item_of, length_at}
 use Rattle.design_core.specs.Wellformed.{signal_lengths}
 use Rattle.item_bits.specs.Items.{asked_within}

@@ -1,4 +1,4 @@
-use Rattle.std.proofs.Common.{◌≡◌, ℕ, ◌+◌, ◌<◌, ◌≤◌, ◌&&◌, ◌||◌, not, Bool, List, length, take, get_or, subst, ◌∙◌, ap, sym, arith}
+use Rattle.std.proofs.Common.{◌+◌, ◌&&◌, ◌||◌, not, Bool, List, take, get_or, subst, ◌∙◌, ap, sym, arith}
 use Rattle.std.proofs.lemmas.List.{take_all}
 use Rattle.design_core.specs.declared.place.BitRef.{BitRef}
 use Rattle.item_bits.specs.declared.pieces.Piece.{Piece}

@@ -1,4 +1,4 @@
-use Rattle.std.proofs.Common.{◌≡◌, ◌+◌, ◌<◌, length, arith}
+use Rattle.std.proofs.Common.{arith}
 use Rattle.std.proofs.lemmas.Result.{on_ok_weaker}
 use Rattle.item_links.proofs.SpanLaws.{some_push}
 use Rattle.item_links.proofs.ReadLaws.{others_put, unstamped, whole_put}

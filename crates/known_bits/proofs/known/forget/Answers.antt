@@ -1,4 +1,4 @@
-use Rattle.std.proofs.Common.{◌≡◌, ◌+◌, ◌<◌, ◌≤◌, ◌++◌, ◌∷◌, [], ap, length, set, false, arith, ◌∙◌}
+use Rattle.std.proofs.Common.{◌≡◌, ◌+◌, ◌++◌, ◌∷◌, [], ap, length, false, arith, ◌∙◌}
 use Rattle.std.proofs.lemmas.List.{length_push, length-set}
 use Rattle.known_bits.proofs.KnownLaws.{gone_more, kept_pop, last_below, prefix_is}
 use Rattle.known_bits.proofs.known.forget.Goals as goal

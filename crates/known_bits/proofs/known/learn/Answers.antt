@@ -1,4 +1,4 @@
-use Rattle.std.proofs.Common.{◌≡◌, ◌≤◌, ◌&&◌, ◌⊎◌, nat_le, nat_lt, arith, ℕ}
+use Rattle.std.proofs.Common.{◌&&◌, nat_le, nat_lt}
 use Rattle.item_order.specs.Spans.{holds}
 use Rattle.known_bits.proofs.KnownLaws.{gains_as, span_end}
 use Rattle.known_bits.proofs.known.learn.Goals as goal

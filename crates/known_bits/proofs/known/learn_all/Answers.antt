@@ -1,4 +1,4 @@
-use Rattle.std.proofs.Common.{◌<◌, length, arith, true, ◌≡◌, ap, ◌∙◌}
+use Rattle.std.proofs.Common.{arith}
 use Rattle.std.specs.Prelude.{slice_index_or}
 use Rattle.known_bits.proofs.KnownLaws.{among_get}
 use Rattle.known_bits.proofs.known.learn_all.Goals as goal

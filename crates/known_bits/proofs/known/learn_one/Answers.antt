@@ -1,4 +1,4 @@
-use Rattle.std.proofs.Common.{◌≡◌, ap, sym, subst, List, ℕ, true, false, set, ◌∙◌}
+use Rattle.std.proofs.Common.{◌≡◌, sym, subst, List, ℕ, true, false, set, ◌∙◌}
 use Rattle.std.proofs.lemmas.List.{get_or_read}
 use Rattle.known_bits.specs.Known.{IsKept, knows}
 use Rattle.known_bits.proofs.KnownLaws.{kept_push}
