@@ -3,3 +3,5 @@ pub mod SpanLaws
 pub mod ReadLaws
 pub mod AddLaws
 pub mod DriveLaws
+mod ItemLaws
+mod SureLaws

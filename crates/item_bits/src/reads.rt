@@ -31,7 +31,7 @@ pub fn add_reads(alloc: Global, e: &DExpr, all: &mut Vec<Piece>) -> Result<(), N
 
 /// The bits that some expressions read are added.
 #[cycle(walk)]
-fn add_all(alloc: Global, parts: &[&DExpr], all: &mut Vec<Piece>) -> Result<(), NoMemory>
+pub fn add_all(alloc: Global, parts: &[&DExpr], all: &mut Vec<Piece>) -> Result<(), NoMemory>
     ensures { OnOk result ((size : ℕ → ℕ) → Adds all.old.items all.new.items (all_read size (seen parts.now))) }
 {
     for at in 0..parts.len() {
@@ -60,7 +60,7 @@ pub fn add_stmt_reads(alloc: Global, body: &DStmt, all: &mut Vec<Piece>) -> Resu
 
 /// The bits that the indices of a left side read are added.
 #[cycle(walk)]
-fn add_left_reads(alloc: Global, left: &DLeft, all: &mut Vec<Piece>) -> Result<(), NoMemory>
+pub fn add_left_reads(alloc: Global, left: &DLeft, all: &mut Vec<Piece>) -> Result<(), NoMemory>
     ensures { OnOk result ((size : ℕ → ℕ) → Adds all.old.items all.new.items (left_reads (core_left size left.now))) }
 {
     match left {

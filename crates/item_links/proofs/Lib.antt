@@ -1,0 +1,5 @@
+pub mod SpanLaws
+pub mod NotedLaws
+pub mod ReadLaws
+pub mod GraphLaws
+pub mod OrderLaws
