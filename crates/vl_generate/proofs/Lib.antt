@@ -1,0 +1,4 @@
+pub mod ArmLaws
+pub mod FirstLaws
+pub mod Rules
+pub mod TurnLaws

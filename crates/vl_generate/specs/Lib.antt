@@ -1,0 +1,9 @@
+pub mod Branches
+pub mod Firsts
+pub mod Followed
+pub mod Functions
+pub mod Overrides
+pub mod Shades
+pub mod Turns
+pub mod Values
+pub mod Vectors
