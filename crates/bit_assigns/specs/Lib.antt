@@ -1,0 +1,4 @@
+pub mod Bits
+pub mod Sides
+pub mod Pieces
+pub mod Laws
