@@ -1,0 +1,11 @@
+pub mod CutLaws
+pub mod Matched
+pub mod Pairs
+pub mod ReadLaws
+pub mod Rows
+pub mod ShapeLaws
+pub mod Spelled
+pub mod Tables
+pub mod Uses
+pub mod Walks
+pub mod Whole
